@@ -1,0 +1,4 @@
+pub mod Bit
+pub mod Count
+pub mod Range
+pub mod Search
