@@ -1,0 +1,3 @@
+pub mod Symbols
+pub mod Decoding
+pub mod Tallies
