@@ -3,9 +3,9 @@ use mathlib.Core.Path.{_≡_, refl, sym, ap, _∙_}
 use mathlib.Core.Bool.{Bool, true, false, not, _||_}
 use mathlib.Core.Logic.{⊎-elim}
 use Prim.Native.Nat.{ℕ, _<_}
-use lib.Dec.{T, eqb, eqb→eq}
+use lib.Dec.{T, ltb, ltb→lt, eqb, eqb→eq}
 use lib.IntN.{ℤ, pos, negsuc}
-use Rattle.laws.proofs.Truth.{or-either, true-T, false-T, T-false}
+use Rattle.laws.proofs.Truth.{and-left, and-right, or-either, false-T, T-false}
 use Rattle.laws.proofs.Finite.{all, below, bounded}
 use Rattle.laws.proofs.Integers.{over, over-number}
 use Rattle.dvi.specs.Control.{control}
@@ -42,19 +42,27 @@ data-small {s} {b} {d} e = rw (e .gives) at (symbol-small d (e .range) b (e .byt
 pub data-test : {s : ℕ} → DataSymbol s → T (isData s)
 data-test {s} p = rw (p .2 .gives) at (symbol-is-data (p .1) (p .2 .range) (p .0) (p .2 .byte))
 
-module _ (s : ℕ) (l : s < 1024) where
+module _ (s : ℕ) where
+  pub is-small : T (isData s) → s < 1024
+  unfolding isData
+  is-small t = ltb→lt s 1024 (and-left (ltb s 1024) (at (pos 0) || at (pos 1) || at (negsuc 0)) t)
+    where
+      at : ℤ → Bool
+      at z = eqb (symbolOf z (byteOf s)) s
+
   -- the encoder sends s for the decoder's byte at z
-  sent-at : (z : ℤ) → T (inRange z) → T (eqb (symbolOf z (byteOf s)) s) → (d : ℤ) × Encodes s (byteOf s) d
-  sent-at z h t = (z, record { range = h; byte = byte-small s l; gives = eqb→eq (symbolOf z (byteOf s)) s t })
+  sent-at : s < 1024 → (z : ℤ) → T (inRange z) → T (eqb (symbolOf z (byteOf s)) s) → (d : ℤ) × Encodes s (byteOf s) d
+  sent-at l z h t = (z, record { range = h; byte = byte-small s l; gives = eqb→eq (symbolOf z (byteOf s)) s t })
 
   pub test-data : T (isData s) → (d : ℤ) × Encodes s (byteOf s) d
   unfolding isData
   test-data t =
       let at : ℤ → Bool = λ z. eqb (symbolOf z (byteOf s)) s in
+      let l = is-small t in
       ⊎-elim
-      (λ u. ⊎-elim (sent-at (pos 0) tt) (sent-at (pos 1) tt) (or-either (at (pos 0)) (at (pos 1)) u))
-      (sent-at (negsuc 0) tt)
-      (or-either (at (pos 0) || at (pos 1)) (at (negsuc 0)) t)
+      (λ u. ⊎-elim (sent-at l (pos 0) tt) (sent-at l (pos 1) tt) (or-either (at (pos 0)) (at (pos 1)) u))
+      (sent-at l (negsuc 0) tt)
+      (or-either (at (pos 0) || at (pos 1)) (at (negsuc 0)) (and-right (ltb s 1024) (at (pos 0) || at (pos 1) || at (negsuc 0)) t))
 
 pub not-data : {s : ℕ} → isData s ≡ false → DataSymbol s → ⊥
 not-data e p = false-T e (data-test p)

@@ -24,7 +24,7 @@ data-tally = refl
 pub data-symbols : Count DataSymbol 1024 460
 data-symbols =
     rw data-tally at
-    (tallied DataSymbol isData 1024 (λ s l e. let p = test-data s l (true-T e) in (byteOf s, p .0, p .1)) (λ s l e. not-data e))
+    (tallied DataSymbol isData 1024 (λ s l e. let p = test-data s (true-T e) in (byteOf s, p .0, p .1)) (λ s l e. not-data e))
 
 -- ---- bytes: the symbol at 1 and the one at -1 are all that a byte has
 

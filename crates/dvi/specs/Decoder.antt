@@ -1,10 +1,10 @@
 -- DVI 1.0, section 3.3: the T.M.D.S. decoder, as the flow chart of figure 3-6 draws it. D is the symbol here, Q the byte. The chart takes any ten
 -- bits; which of them are data symbols it doesn't say.
-use mathlib.Core.Bool.{Bool, true, false, not, cond, _||_}
+use mathlib.Core.Bool.{Bool, true, false, not, cond, _&&_, _||_}
 use mathlib.Core.List.{List, [], _∷_, map}
 use Prim.Native.Nat.{ℕ, _/_, _%_}
-use lib.Dec.{eqb}
-use lib.IntN.{pos, negsuc}
+use lib.Dec.{ltb, eqb}
+use lib.IntN.{ℤ, pos, negsuc}
 use Rattle.dvi.specs.Encoder.{bitsOf, valueOf, XOR, XNOR}
 use Rattle.dvi.specs.Symbol.{symbolOf}
 
@@ -33,6 +33,9 @@ restored op (d ∷ ds) = d ∷ unchained op d ds
 unfoldable pub byteOf : ℕ → ℕ
 byteOf s = valueOf (cond (bit8 s) (restored XOR (upright s)) (restored XNOR (upright s)))
 
--- whether the encoder sends s for that byte, at 0 or on either side of it
+-- whether s is sent at all: it has ten bits, and the encoder sends it for that byte at 0 or on either side of it
 unfoldable pub isData : ℕ → Bool
-isData s = eqb (symbolOf (pos 0) (byteOf s)) s || eqb (symbolOf (pos 1) (byteOf s)) s || eqb (symbolOf (negsuc 0) (byteOf s)) s
+isData s = ltb s 1024 && (sentAt (pos 0) || sentAt (pos 1) || sentAt (negsuc 0))
+  where
+    sentAt : ℤ → Bool
+    sentAt d = eqb (symbolOf d (byteOf s)) s

@@ -4,7 +4,7 @@ use Prim.Native.Nat.{ℕ}
 use lib.IntN.{ℤ, pos, negsuc}
 use Rattle.dvi.specs.Symbol.{symbolOf, nextOf, DataSymbol}
 use Rattle.dvi.specs.Decoder.{byteOf, isData}
-use Rattle.dvi.proofs.Decoding.{test-data, data-small}
+use Rattle.dvi.proofs.Decoding.{data-small}
 use Rattle.refusal.specs.declared.Refusal.the-variants.{Discrepancy, Unlisted}
 use Rattle.symbol.specs.declared.Encoded.the-variants as encoded
 use Rattle.symbol.specs.declared.Joined.the-variants as joined

@@ -27,8 +27,7 @@ restored-requires c κs = search needs
 returns-3 : tie.Need-returns-3
 returns-3 c =
     let s = c .before .before .before .before .before .args .self .0 in
-    let l : s < 1024 = omega arith in
-    let p = test-data s l (true-T (sym (c .before .before .is-data .ensures) ∙ not-false _ (c .before .if2 .left))) in
+    let p = test-data s (true-T (sym (c .before .before .is-data .ensures) ∙ not-false _ (c .before .if2 .left))) in
     (p .0, rw (c .restored .ensures) (p .1))
 
 pub read-spec : {M : Type 1} → statement M
