@@ -1,0 +1,2 @@
+pub mod Island
+pub mod Terc4
