@@ -6,6 +6,7 @@ use Prim.Native.Nat.{ℕ, zero, suc, _+_, _-_, _*_, _/_, _%_}
 use lib.Dec.{leb, ltb}
 use lib.ListN.{getD}
 use Rattle.laws.specs.Bit.{bit}
+use Rattle.laws.specs.Digits.{numeral}
 use Rattle.laws.proofs.Tables.{made}
 use Rattle.dvi.specs.Lanes.{lanes}
 use Rattle.hdmi.specs.Terc4.{terc4}
@@ -30,9 +31,9 @@ marker (suc k) = 8
 abbrev pub laneZero : ℕ → List ℕ → ℕ → ℕ
 laneZero hv p k = hv + 4 * headerBit p k + marker k
 
--- the four bits of lane 1 or 2 that send bit n of the subpackets: bit s is subpacket s's
+-- the four bits of the lane that sends bit n of the subpackets: bit s is subpacket s's
 abbrev pub across : List ℕ → ℕ → ℕ
-across p n = subpacketBit p 0 n + 2 * subpacketBit p 1 n + 4 * subpacketBit p 2 n + 8 * subpacketBit p 3 n
+across p n = numeral 1 (λ s. subpacketBit p s n) 0 4
 
 -- character k of the packet, of 32: the subpackets' even bits go on lane 1 and their odd bits on lane 2
 unfoldable pub dataWord : ℕ → List ℕ → ℕ → ℕ

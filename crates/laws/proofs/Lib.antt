@@ -3,6 +3,8 @@ pub mod Finite
 pub mod Integers
 pub mod Tables
 pub mod Counting
+pub mod Digits
 pub mod Bits
 pub mod Xor
 pub mod Searching
+pub mod Swaps

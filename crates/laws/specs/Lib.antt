@@ -1,4 +1,5 @@
 pub mod Bit
 pub mod Count
+pub mod Digits
 pub mod Range
 pub mod Search

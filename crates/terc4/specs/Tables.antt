@@ -6,16 +6,17 @@ use lib.Bits.{bitXor}
 use lib.Dec.{eqb}
 use lib.ListN.{getD}
 use Rattle.laws.specs.Bit.{bit}
+use Rattle.laws.specs.Digits.{numeral}
 use Rattle.laws.specs.Search.{first}
 use Rattle.dvi.specs.Lanes.{lanes}
 use Rattle.hdmi.specs.Terc4.{terc4}
 
 -- the even bits of a byte, and its odd ones, as numbers of four bits
 abbrev pub evens : ℕ → ℕ
-evens x = bit 0 x + 2 * bit 2 x + 4 * bit 4 x + 8 * bit 6 x
+evens x = numeral 1 (λ s. bit (2 * s) x) 0 4
 
 abbrev pub odds : ℕ → ℕ
-odds x = bit 1 x + 2 * bit 3 x + 4 * bit 5 x + 8 * bit 7 x
+odds x = numeral 1 (λ s. bit (2 * s + 1) x) 0 4
 
 -- the even bits as a symbol on lane 1, the odd ones on lane 2, and lane 0 empty
 unfoldable pub twoLanes : ℕ → ℕ
