@@ -70,6 +70,10 @@ pub marker-is : (k : ℕ) → (marker k / 8 * 8 ≡ marker k) × (marker k ≤ 8
 marker-is zero = (refl, omega arith)
 marker-is (suc k) = (refl, omega arith)
 
+pub marker-later : (k : ℕ) → (k ≡ 0 → ⊥) → marker k ≡ 8
+marker-later zero h = absurd (h refl)
+marker-later (suc k) h = refl
+
 pub zero-lt : (hv : ℕ) (p : List ℕ) (k : ℕ) → hv < 4 → laneZero hv p k < 16
 zero-lt hv p k h = omega (arith, header-lt p k, marker-is k)
 

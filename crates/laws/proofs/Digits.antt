@@ -1,9 +1,10 @@
 -- The bits of a number that is given by its digits, at any width and any number of digits.
 use mathlib.Core.Path.{_≡_, refl, sym, ap, ap₂, subst, _∙_}
 use Prim.Native.Nat.{ℕ, zero, suc, _+_, _*_, _/_, _%_, _^_, _≤_, _<_}
-use native.Mathlib.Nat.{add-zero, zero-add, add-suc, suc-add, add-comm, add-assoc, mul-zero, mul-suc, mul-one, suc-mul}
+use native.Mathlib.Nat.{add-zero, zero-add, add-suc, suc-add, add-comm, add-assoc, mul-zero, mul-suc, mul-one, suc-mul, mod-eq-of-lt}
 use native.Mathlib.Omega.{arith}
 use lib.Arith.{digits-lt}
+use lib.Bits.{bitOr, or-shifted-r}
 use lib.Pow.{pow-pos, pow-add, high, low}
 use Rattle.laws.specs.Bit.{bit}
 use Rattle.laws.specs.Digits.{numeral}
@@ -53,3 +54,7 @@ pub of-bits : (n x : ℕ) → x < 2 ^ n → numeral 1 (λ s. bit s x) 0 n ≡ x
 of-bits n x h =
     bit-ext n (numeral 1 (λ s. bit s x) 0 n) x (bits-lt (λ s. bit s x) (λ s. bit-lt s x) n) h
     (λ k l. bits-bit (λ s. bit s x) (λ s. bit-lt s x) n k l)
+
+-- a number of k bits, and another or-ed in above them in a word of w bits
+pub or-above : (w k x y : ℕ) → x < 2 ^ k → y * 2 ^ k < 2 ^ w → bitOr x (y * 2 ^ k % 2 ^ w) ≡ y * 2 ^ k + x
+or-above w k x y hx hy = ap (bitOr x) (mod-eq-of-lt hy) ∙ or-shifted-r y k x hx

@@ -4,6 +4,7 @@ pub mod Integers
 pub mod Tables
 pub mod Counting
 pub mod Digits
+pub mod Fronts
 pub mod Bits
 pub mod Xor
 pub mod Searching
