@@ -1,4 +1,5 @@
 pub mod Truth
+pub mod Everywhere
 pub mod Finite
 pub mod Integers
 pub mod Tables
@@ -6,3 +7,4 @@ pub mod Counting
 pub mod Bits
 pub mod Xor
 pub mod Searching
+pub mod Spines
