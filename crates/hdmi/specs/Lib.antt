@@ -1,2 +1,5 @@
+pub mod Audio
+pub mod Clock
+pub mod Info
 pub mod Packet
 pub mod Parity
