@@ -2,14 +2,14 @@
 use refusal::Refusal;
 use refusal::Verdict;
 ghost use mathlib.Core.Path.{_≡_};
+ghost use mathlib.Core.List.{_++_};
 ghost use Prim.Native.Nat.{_+_, _≤_};
 ghost use lib.ListN.{length};
 ghost use lib.Seq.{paste};
 ghost use Rattle.refusal.specs.Verdict.{verdict, kept};
-ghost use Rattle.hdmi.specs.Packet.{packetOf};
+ghost use Rattle.hdmi.specs.Parity.{withParity};
 ghost use Rattle.hdmi.specs.Clock.{clockPacket};
 ghost use Rattle.packet.specs.Asks.{clockAsks};
-ghost use Rattle.packet.specs.Blocks.{blocks};
 
 // Audio clock regeneration: CTS and N, the same in each subpacket.
 pub fn set_audio_clock_regeneration(packet: &mut [u8], cts: u32, n: u32) -> Verdict
@@ -24,7 +24,7 @@ pub fn set_audio_clock_regeneration(packet: &mut [u8], cts: u32, n: u32) -> Verd
     if n >= 1048576 {
         return Verdict::Refused(Refusal::ClockValue);
     }
-    let s = [
+    let bytes = [
         0,
         (cts / 65536) as u8,
         (cts / 256 % 256) as u8,
@@ -33,21 +33,37 @@ pub fn set_audio_clock_regeneration(packet: &mut [u8], cts: u32, n: u32) -> Verd
         (n / 256 % 256) as u8,
         (n % 256) as u8,
     ];
-    fill(packet, [1, 0, 0], s, s, s, s);
+    let block = with_parity(bytes);
+    join(packet, [1, 0, 0, 0x4a], block, block, block, block);
     Verdict::Fine
 }
 
-// The data bytes of header and subpackets, each block with its parity byte behind it.
-fn fill(packet: &mut [u8], h: [u8; 3], a: [u8; 7], b: [u8; 7], c: [u8; 7], d: [u8; 7])
+// A subpacket's data bytes with their parity byte behind them.
+fn with_parity(bytes: [u8; 7]) -> [u8; 8]
+    ensures { λ r. ⌜ r ≡ withParity bytes ⌝ }
+{
+    [
+        bytes[0],
+        bytes[1],
+        bytes[2],
+        bytes[3],
+        bytes[4],
+        bytes[5],
+        bytes[6],
+        parity::compute_bch(&bytes),
+    ]
+}
+
+// The header and the four subpackets, end to end.
+fn join(packet: &mut [u8], h: [u8; 4], a: [u8; 8], b: [u8; 8], c: [u8; 8], d: [u8; 8])
     requires { ⌜ length (now packet) ≡ 36 ⌝ }
-    ensures { λ _. ⌜ now (packet .exit) ≡ packetOf h (blocks a b c d) ⌝ }
+    ensures { λ _. ⌜ now (packet .exit) ≡ h ++ (a ++ (b ++ (c ++ d))) ⌝ }
 {
     lay(packet, 0, &h);
     lay(packet, 4, &a);
     lay(packet, 12, &b);
     lay(packet, 20, &c);
     lay(packet, 28, &d);
-    parity::seal(packet);
 }
 
 // The bytes of a block, from a place of the packet on.

@@ -1,15 +1,14 @@
--- `packet::fill`: five blocks laid end to end, then sealed.
+-- `packet::join`: five blocks laid end to end.
 use mathlib.Core.Path.{ap, _∙_}
 use native.Mathlib.Omega.{arith}
 use denote.Ref.{now}
 use borrow.Author.Needs.{needs}
-use Rattle.packet.proofs.Laying.{laid, afterSeal, laid-sealed}
-use Rattle.packet.proofs.fill.Statement.{statement}
-use Rattle.packet.proofs.fill.Tie as tie
-use Rattle.packet.proofs.fill.Reads as reads
-use Rattle.packet.proofs.fill.Lts as lts
+use Rattle.packet.proofs.Laying.{laid, laid-joined}
+use Rattle.packet.proofs.join.Statement.{statement}
+use Rattle.packet.proofs.join.Tie as tie
+use Rattle.packet.proofs.join.Reads as reads
+use Rattle.packet.proofs.join.Lts as lts
 use Rattle.packet.proofs.lay.Reads as lay-reads
-use Rattle.parity.proofs.seal.Reads as seal-reads
 
 slice-aggregate-lay : tie.Need-slice-aggregate-lay
 slice-aggregate-lay c = search needs
@@ -41,34 +40,28 @@ slice-aggregate-lay-5 c = search needs
 lay-requires-5 : tie.Need-lay-requires-5
 lay-requires-5 c κs = search needs
 
-seal-requires : tie.Need-seal-requires
-seal-requires c κs = search needs
-
 same-length : tie.Need-same-length
 same-length c = search needs
 
 returns : tie.Need-returns
 returns c =
-    let seal = c .before .before in
-    let k5 = seal .before .before .before .before in
+    let k5 = c .before .before in
     let k4 = k5 .before .before .before .before .before in
     let k3 = k4 .before .before .before .before .before in
     let k2 = k3 .before .before .before .before .before in
     let k1 = k2 .before .before .before .before .before in
     let start = k1 .before .before .before .before in
     let a = start .args in
-    seal .seal .ensures .1
-    ∙ ap afterSeal
-    (k5 .lay5 .ensures
+    k5 .lay5 .ensures
     ∙ ap (laid 28 (a .t6))
     (k4 .lay4 .ensures
     ∙ ap (laid 20 (a .t5))
-    (k3 .lay3 .ensures ∙ ap (laid 12 (a .t4)) (k2 .lay2 .ensures ∙ ap (laid 4 (a .t3)) (k1 .lay .ensures)))))
-    ∙ laid-sealed (now (a .packet)) (a .t2) (a .t3) (a .t4) (a .t5) (a .t6) (start .pre)
+    (k3 .lay3 .ensures ∙ ap (laid 12 (a .t4)) (k2 .lay2 .ensures ∙ ap (laid 4 (a .t3)) (k1 .lay .ensures))))
+    ∙ laid-joined (now (a .packet)) (a .t2) (a .t3) (a .t4) (a .t5) (a .t6) (start .pre)
     (omega (arith, start)) (omega (arith, start)) (omega (arith, start)) (omega (arith, start)) (omega (arith, start))
 
-pub fill-spec : {M : Type 1} → statement M
-fill-spec =
+pub join-spec : {M : Type 1} → statement M
+join-spec =
     tie.close
     (tie.spec
     slice-aggregate-lay
@@ -81,6 +74,5 @@ fill-spec =
     lay-requires-4
     slice-aggregate-lay-5
     lay-requires-5
-    seal-requires
     same-length
     returns)
