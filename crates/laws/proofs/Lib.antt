@@ -1,4 +1,5 @@
 pub mod Truth
+pub mod Everywhere
 pub mod Finite
 pub mod Integers
 pub mod Tables
@@ -9,3 +10,4 @@ pub mod Bits
 pub mod Xor
 pub mod Searching
 pub mod Swaps
+pub mod Spines
