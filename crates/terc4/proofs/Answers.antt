@@ -1,29 +1,20 @@
 -- What the two entries answer: a number is refused exactly above 15, a symbol exactly when it is none of the sixteen, and reading inverts writing.
 use mathlib.Core.Path.{_≡_, refl, sym, ap, _∙_}
 use mathlib.Core.Bool.{Bool, true, false}
-use Prim.Native.Nat.{ℕ, _<_, _≤_}
+use Prim.Native.Nat.{ℕ, _<_}
 use native.Mathlib.Omega.{arith}
-use borrow.Author.Tests.{ltb-true, ltb-false, lt-ltb, le-ltb}
+use borrow.Author.Tests.{ltb-true, ltb-false, lt-ltb}
 use lib.Dec.{T, ltb}
-use Rattle.refusal.specs.declared.Verdict.{Verdict}
-use Rattle.refusal.specs.declared.Verdict.the-variants.{Fine, Refused}
+use Rattle.refusal.specs.declared.Verdict.the-variants.{Fine}
 use Rattle.refusal.specs.declared.Refusal.{Refusal}
-use Rattle.refusal.specs.declared.Refusal.the-variants.{Unlisted, NotTerc4}
-use Rattle.refusal.specs.Verdict.{unless, verdict, answered, rising}
+use Rattle.refusal.specs.declared.Refusal.the-variants.{NotTerc4}
+use Rattle.refusal.specs.Verdict.{unless, answered, rising}
 use Rattle.hdmi.specs.Terc4.{terc4, terc4Number}
 use Rattle.hdmi.proofs.Terc4.{number-terc4, terc4-number}
-use Rattle.terc4.specs.declared.Terc4.{Terc4}
 use Rattle.terc4.specs.declared.Terc4.the-variants.{Symbol}
 use Rattle.terc4.specs.declared.Terc4Number.{Terc4Number}
 use Rattle.terc4.specs.declared.Terc4Number.the-variants.{Number}
-use Rattle.terc4.specs.Terc4.{symbolAsks, readAsks}
-
--- what `symbol` and `read` answer, by their contracts
-abbrev pub symbolAnswer : ℕ → Terc4
-symbolAnswer n = answered (verdict (symbolAsks n)) (Symbol (terc4 n)) Terc4.Refused
-
-abbrev pub readAnswer : ℕ → Terc4Number
-readAnswer x = answered (verdict (readAsks x)) (Number (terc4Number x)) Terc4Number.Refused
+use Rattle.terc4.specs.Terc4.{symbolAsks, symbolAnswer, readAsks, readAnswer}
 
 pub symbol-in-order : (n : ℕ) → T (rising (symbolAsks n))
 symbol-in-order n = tt
@@ -32,7 +23,7 @@ pub read-in-order : (x : ℕ) → T (rising (readAsks x))
 read-in-order x = tt
 
 -- reading inverts writing
-pub read-symbol : (n : ℕ) → n < 16 → (symbolAnswer n ≡ Symbol (terc4 n)) × (readAnswer (terc4 n) ≡ Number n)
+pub read-symbol : (n : ℕ) → n < 16 → (symbolAnswer n ≡ Symbol (record { 0 = terc4 n })) × (readAnswer (terc4 n) ≡ Number n)
 read-symbol n h = (simp (lt-ltb n 16 h), simp (number-terc4 n h, lt-ltb n 16 h))
 
 -- a symbol that is read is the one written for the answer, so no second number fits

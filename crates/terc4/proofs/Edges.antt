@@ -6,9 +6,9 @@ use Rattle.terc4.specs.declared.Terc4.the-variants.{Symbol}
 use Rattle.terc4.specs.declared.Terc4Number.the-variants.{Number}
 use Rattle.terc4.specs.declared.Terc4.{Terc4}
 use Rattle.terc4.specs.declared.Terc4Number.{Terc4Number}
-use Rattle.terc4.proofs.Answers.{symbolAnswer, readAnswer}
+use Rattle.terc4.specs.Terc4.{symbolAnswer, readAnswer}
 
-pub fifteen-is-listed : symbolAnswer 15 ≡ Symbol 0x2c3
+pub fifteen-is-listed : symbolAnswer 15 ≡ Symbol (record { 0 = 0x2c3 })
 unfolding terc4
 fifteen-is-listed = refl
 

@@ -1,11 +1,11 @@
 // TERC4, the code of data islands: four bits in a symbol, and back; and the tables that the island's writer and reader are lent.
 ghost use mathlib.Core.Path.{_≡_};
 ghost use Rattle.laws.proofs.Tables.{made};
-ghost use Rattle.refusal.specs.Verdict.{verdict, answered};
-ghost use Rattle.hdmi.specs.Terc4.{terc4, terc4Number};
+ghost use Rattle.hdmi.specs.Terc4.{terc4};
 ghost use Rattle.terc4.specs.Tables.{twoLanes, candidate, numberIn};
-ghost use Rattle.terc4.specs.Terc4.{symbolAsks, readAsks};
+ghost use Rattle.terc4.specs.Terc4.{symbolAnswer, readAnswer};
 use refusal::Refusal;
+use symbol::TmdsSymbol;
 
 // The sixteen symbols, by their number.
 const SYMBOLS: [u16; 16] = [
@@ -324,7 +324,7 @@ const CANDIDATES: [u32; 32] = [
 ];
 
 pub enum Terc4 {
-    Symbol(u16),
+    Symbol(TmdsSymbol),
     Refused(Refusal),
 }
 
@@ -367,19 +367,19 @@ pub fn number_in(table: &[u32; 32], symbol: u32) -> u32
 
 // TERC4 of a number.
 pub fn symbol(n: u8) -> Terc4
-    ensures { λ r. ⌜ r ≡ answered (verdict (symbolAsks n)) (Terc4.Symbol (terc4 n)) Terc4.Refused ⌝ }
+    ensures { λ r. ⌜ r ≡ symbolAnswer n ⌝ }
 {
     if 16 <= n {
         return Terc4::Refused(Refusal::Unlisted);
     }
-    Terc4::Symbol(SYMBOLS[n as usize])
+    Terc4::Symbol(TmdsSymbol(SYMBOLS[n as usize]))
 }
 
 // The number of a TERC4 symbol.
-pub fn read(symbol: u16) -> Terc4Number
-    ensures { λ r. ⌜ r ≡ answered (verdict (readAsks symbol)) (Terc4Number.Number (terc4Number symbol)) Terc4Number.Refused ⌝ }
+pub fn read(symbol: TmdsSymbol) -> Terc4Number
+    ensures { λ r. ⌜ r ≡ readAnswer (symbol .0) ⌝ }
 {
-    let n = number_in(&CANDIDATES, symbol as u32);
+    let n = number_in(&CANDIDATES, symbol.0 as u32);
     if n == 16 {
         return Terc4Number::Refused(Refusal::NotTerc4(0));
     }
