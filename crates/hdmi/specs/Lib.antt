@@ -1,0 +1,7 @@
+pub mod Audio
+pub mod Clock
+pub mod Info
+pub mod Island
+pub mod Packet
+pub mod Parity
+pub mod Terc4
