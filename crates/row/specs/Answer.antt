@@ -29,3 +29,15 @@ encodeRowOf d bytes room = answered (verdict (encodeRowAsks d (length bytes) roo
 
 abbrev pub encodeRowOut : ℤ → List ℕ → List ℕ → List ℕ
 encodeRowOut d bytes out = kept (verdict (encodeRowAsks d (length bytes) (length out))) (rowSymbols d bytes) out
+
+-- ---- reading: the bytes of a row of data symbols
+
+-- the first index whose symbol is no data symbol, or the length where there is none
+abbrev pub firstBad : List ℕ → ℕ
+firstBad ss = first (λ i. not (isData (getD ss i 0))) 0 (length ss)
+
+abbrev pub readRowAsks : List ℕ → ℕ → List Ask
+readRowAsks ss room = ask (lengthsFit (length ss) room) Length ∷ ask (eqb (firstBad ss) (length ss)) (NotData (firstBad ss)) ∷ []
+
+abbrev pub readRowOut : List ℕ → List ℕ → List ℕ
+readRowOut ss out = kept (verdict (readRowAsks ss (length out))) (rowBytes ss) out

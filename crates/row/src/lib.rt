@@ -12,9 +12,10 @@ ghost use lib.Dec.{T};
 ghost use lib.IntN.{ℤ};
 ghost use lib.ListN.{length, getD};
 ghost use Rattle.dvi.specs.Symbol.{inRange};
-ghost use Rattle.dvi.specs.Row.{rowSymbols, rowEnd};
+ghost use Rattle.dvi.specs.Row.{rowSymbols, rowEnd, rowBytes};
 ghost use Rattle.refusal.specs.Verdict.{verdict};
-ghost use Rattle.row.specs.Answer.{lengthsFit, encodeRowAsks, encodeRowOf, encodeRowOut};
+ghost use Rattle.row.specs.Answer.{lengthsFit, encodeRowAsks, encodeRowOf, encodeRowOut, firstBad, readRowAsks, readRowOut};
+ghost use Rattle.row.specs.Lookup.{entryOf, Entries};
 ghost use Rattle.row.specs.Shift.{held, Field, Rule, Written, unbiased};
 
 // The byte's word, moved to the field of the discrepancy that x holds.
@@ -160,4 +161,59 @@ pub fn encode_row(discrepancy: i32, bytes: &[u8], out: &mut [u16]) -> RowEncoded
             RowEncoded::Done(ended(x))
         }
     }
+}
+
+// What the table holds for a symbol: its byte, or 256 where it is no data symbol.
+fn looked_up(bytes: &[u16; 1024], symbol: u16) -> u16
+    requires { ⌜ (symbol < 1024 → getD (now bytes) symbol 0 ≡ entryOf symbol) ⌝ }
+    ensures { λ r. ⌜ r ≡ entryOf symbol ⌝ }
+{
+    if symbol < 1024 {
+        bytes[symbol as usize]
+    } else {
+        256
+    }
+}
+
+// The index of the first symbol that is no data symbol, or the length where there is none.
+fn scan(bytes: &[u16; 1024], symbols: &[u16]) -> usize
+    requires { ⌜ Entries (now bytes) ⌝ }
+    ensures { λ r. ⌜ r ≡ firstBad (now (symbols .entry)) ⌝ }
+{
+    let mut i = 0;
+    while i < symbols.len() {
+        if looked_up(bytes, symbols[i]) > 255 {
+            return i;
+        }
+        i += 1;
+    }
+    i
+}
+
+// The bytes of a row that was scanned.
+fn unpack(bytes: &[u16; 1024], symbols: &[u16], out: &mut [u8])
+    requires { ⌜ Entries (now bytes) × (length (now out) ≡ length (now symbols)) × (firstBad (now symbols) ≡ length (now symbols)) ⌝ }
+    ensures { λ _. ⌜ now (out .exit) ≡ rowBytes (now (symbols .entry)) ⌝ }
+{
+    let mut i = 0;
+    while i < symbols.len() {
+        out[i] = (looked_up(bytes, symbols[i]) % 256) as u8;
+        i += 1;
+    }
+}
+
+// The bytes of a row of symbols, or of a piece of one. Nothing is written before every symbol was looked at.
+pub fn read_row(symbols: &[u16], out: &mut [u8]) -> Verdict
+    ensures answer { λ r. ⌜ r ≡ verdict (readRowAsks (now (symbols .entry)) (length (now (out .entry)))) ⌝ }
+    ensures bytes { λ _. ⌜ now (out .exit) ≡ readRowOut (now (symbols .entry)) (now (out .entry)) ⌝ }
+{
+    if !lengths_fit(symbols.len(), out.len()) {
+        return Verdict::Refused(Refusal::Length);
+    }
+    let bad = scan(&BYTES, symbols);
+    if bad != symbols.len() {
+        return Verdict::Refused(Refusal::NotData(bad));
+    }
+    unpack(&BYTES, symbols, out);
+    Verdict::Fine
 }
