@@ -2,9 +2,11 @@ pub mod Truth
 pub mod Everywhere
 pub mod Finite
 pub mod Integers
+pub mod Linear
 pub mod Tables
 pub mod Counting
 pub mod Bits
+pub mod Bytes
 pub mod Xor
 pub mod Searching
 pub mod Spines

@@ -50,7 +50,7 @@ fn with_parity(bytes: [u8; 7]) -> [u8; 8]
         bytes[4],
         bytes[5],
         bytes[6],
-        parity::compute_bch(&bytes),
+        parity::subpacket_parity(bytes),
     ]
 }
 
