@@ -2,6 +2,7 @@
 use refusal::Refusal;
 ghost use mathlib.Core.Path.{_≡_};
 ghost use Prim.Native.Nat.{_≤_};
+ghost use Rattle.hdmi.specs.Info.{activePresent};
 ghost use Rattle.fields.specs.ScanInfo.{scanNumber, scanDecided};
 ghost use Rattle.fields.specs.PixelFormat.{pixelNumber, pixelDecided};
 ghost use Rattle.fields.specs.Colorimetry.{colorNumber, colorDecided};
@@ -181,6 +182,19 @@ impl ActiveFormatAspectRatio {
             ActiveFormatAspectRatio::Ratio4_3 => 9,
             ActiveFormatAspectRatio::Ratio16_9 => 10,
             ActiveFormatAspectRatio::Ratio14_9 => 11,
+        }
+    }
+
+    // A: 1 where there is something to say.
+    pub fn present(self) -> u8
+        ensures { λ r. ⌜ (r ≡ activePresent (activeNumber self)) × (r ≤ 1) ⌝ }
+    {
+        match self {
+            ActiveFormatAspectRatio::NoData => 0,
+            ActiveFormatAspectRatio::SameAsPar => 1,
+            ActiveFormatAspectRatio::Ratio4_3 => 1,
+            ActiveFormatAspectRatio::Ratio16_9 => 1,
+            ActiveFormatAspectRatio::Ratio14_9 => 1,
         }
     }
 
