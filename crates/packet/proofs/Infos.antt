@@ -6,7 +6,7 @@ use native.Mathlib.Omega.{arith}
 use lib.ListN.{replicate, take, drop}
 use Rattle.hdmi.specs.Parity.{parity, sent, withParity}
 use Rattle.hdmi.specs.Info.{sum, infoBytes, infoFrame}
-use Rattle.packet.proofs.Laying.{joined-packet}
+use Rattle.packet.proofs.Laying.{header-with, joined-packet}
 
 -- zeros have the parity byte 0
 pub zero-block : replicate 8 0 ≡ withParity (replicate 7 0)
@@ -26,4 +26,4 @@ module _ (kind version size check a b c d : ℕ) where
   unfolding infoFrame
   info-joined total block eh et eb =
       let first : block ≡ withParity (take 7 (infoBytes h bytes)) = eb ∙ ap (λ (t : ℕ). withParity ((256 - t % 256) % 256 ∷ a ∷ b ∷ c ∷ d ∷ 0 ∷ 0 ∷ [])) et in
-      joined-packet h (λ s. take 7 (drop (7 * s) (infoBytes h bytes))) check eh first zero-block zero-block zero-block
+      joined-packet h (λ s. take 7 (drop (7 * s) (infoBytes h bytes))) (header-with h check eh) first zero-block zero-block zero-block
