@@ -24,13 +24,11 @@ passes r e = ap (λ (t : Bool). verdict (ask t r ∷ [])) (sym e)
 pub fails : {t : Bool} (r : Refusal) → t ≡ false → Refused r ≡ verdict (ask t r ∷ [])
 fails r e = ap (λ (t : Bool). verdict (ask t r ∷ [])) (sym e)
 
-unless-fine : (t : Bool) (r : Refusal) (v : Verdict) → unless t r v ≡ Fine → (t ≡ true) × (v ≡ Fine)
-unless-fine true r v e = (refl, e)
-unless-fine false r v e = let z : _≡_ {A = ℕ} 0 1 = cc in absurd (omega arith)
+-- where nothing is refused, the first question holds, and nothing is refused of the rest
+pub held : (t : Bool) (r : Refusal) (qs : List Ask) → verdict (ask t r ∷ qs) ≡ Fine → (t ≡ true) × (verdict qs ≡ Fine)
+held true r qs e = (refl, e)
+held false r qs e = let z : _≡_ {A = ℕ} 0 1 = cc in absurd (omega arith)
 
--- where nothing is refused, the first question holds, and nothing is refused by the rest
-pub holds-first : (q : Ask) (qs : List Ask) → verdict (q ∷ qs) ≡ Fine → q .holds ≡ true
-holds-first q qs e = unless-fine (q .holds) (q .otherwise) (verdict qs) e .0
-
-pub fine-rest : (q : Ask) (qs : List Ask) → verdict (q ∷ qs) ≡ Fine → verdict qs ≡ Fine
-fine-rest q qs e = unless-fine (q .holds) (q .otherwise) (verdict qs) e .1
+-- nothing is refused and yet something is
+pub never : {v : Verdict} {r : Refusal} → v ≡ Fine → v ≡ Refused r → ⊥
+never e g = let z : _≡_ {A = ℕ} 0 1 = cc in omega arith
