@@ -6,3 +6,4 @@ pub mod Counting
 pub mod Bits
 pub mod Xor
 pub mod Searching
+pub mod Tallies

@@ -32,3 +32,26 @@ held false r qs e = let z : _≡_ {A = ℕ} 0 1 = cc in absurd (omega arith)
 -- nothing is refused and yet something is
 pub never : {v : Verdict} {r : Refusal} → v ≡ Fine → v ≡ Refused r → ⊥
 never e g = let z : _≡_ {A = ℕ} 0 1 = cc in omega arith
+
+-- ---- an entry's outcome, from the verdict v that its code took apart
+
+module _ {A : Type 0} {v w : Verdict} (e : v ≡ w) where
+  pub answers : (value : A) (refuse : Refusal → A) → v ≡ Fine → value ≡ answered w value refuse
+  answers value refuse g = ap (λ (u : Verdict). answered u value refuse) (sym g ∙ e)
+
+  pub hands-on : {r : Refusal} (value : A) (refuse : Refusal → A) → v ≡ Refused r → refuse r ≡ answered w value refuse
+  hands-on value refuse g = ap (λ (u : Verdict). answered u value refuse) (sym g ∙ e)
+
+  pub writes : (new old : A) → v ≡ Fine → new ≡ kept w new old
+  writes new old g = ap (λ (u : Verdict). kept u new old) (sym g ∙ e)
+
+  pub leaves : {r : Refusal} (new old : A) → v ≡ Refused r → old ≡ kept w new old
+  leaves new old g = ap (λ (u : Verdict). kept u new old) (sym g ∙ e)
+
+-- two lists of questions of which nothing is refused
+pub both-fine : (qs ps : List Ask) → verdict (qs ++ ps) ≡ Fine → (verdict qs ≡ Fine) × (verdict ps ≡ Fine)
+both-fine [] ps e = (refl, e)
+both-fine (q ∷ qs) ps e =
+    let h = held (q .holds) (q .otherwise) (qs ++ ps) e in
+    let r = both-fine qs ps (h .1) in
+    (ap (λ (t : Bool). unless t (q .otherwise) (verdict qs)) (h .0) ∙ r .0, r .1)
