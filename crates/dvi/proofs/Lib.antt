@@ -1,0 +1,4 @@
+pub mod Symbols
+pub mod Decoding
+pub mod Rows
+pub mod Tallies
