@@ -4,7 +4,8 @@ use mathlib.Core.Bool.{Bool, true, false, Bool·beq}
 use Prim.Native.Nat.{ℕ, _+_, _*_, _<_}
 use native.Mathlib.Omega.{arith}
 use mir.Val.{boolByte}
-use Rattle.dvi.specs.Control.{level, pairOf}
+use Rattle.dvi.specs.Control.{control, level, pairOf}
+use Rattle.laws.proofs.Finite.{bounded}
 use Rattle.timing.specs.Sync.{levelOf}
 
 -- a level is one bit
@@ -25,3 +26,8 @@ level-is false false = refl
 pub level-cast : (b : Bool) → boolByte b ≡ level b
 level-cast true = refl
 level-cast false = refl
+
+-- a control symbol has ten bits
+pub control-lt : (c0 c1 : Bool) → control (pairOf c0 c1) < 1024
+unfolding control
+control-lt c0 c1 = bounded control 1024 4 tt (pairOf c0 c1) (pair-lt c0 c1)

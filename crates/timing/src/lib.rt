@@ -2,10 +2,11 @@
 use refusal::Refusal;
 use refusal::Verdict;
 use symbol::Tmds3;
+use symbol::TmdsSymbol;
 ghost use mathlib.Core.Bool.{false};
 ghost use mathlib.Core.Path.{_≡_};
 ghost use Prim.Native.Nat.{_<_};
-ghost use Rattle.dvi.specs.Control.{control, pairOf};
+ghost use Rattle.dvi.specs.Control.{pairOf};
 ghost use Rattle.hdmi.specs.Period.{controlWord, idle, videoPreamble, dataPreamble};
 ghost use Rattle.refusal.specs.Verdict.{verdict};
 ghost use Rattle.timing.specs.Command.{commandOf};
@@ -60,23 +61,23 @@ fn within(low: u32, x: u32) -> bool
     (low <= x) & (x <= 4095)
 }
 
-// The next `count` words go out as they stand.
-pub fn hstx_cmd_raw(count: u32) -> CommandWord
-    ensures { λ r. ⌜ r ≡ commandOf 0 count ⌝ }
+// The next `words` words go out as they stand.
+pub fn hstx_cmd_raw(words: u32) -> CommandWord
+    ensures { λ r. ⌜ r ≡ commandOf 0 words ⌝ }
 {
-    if within(1, count) {
-        CommandWord::Word(count)
+    if within(1, words) {
+        CommandWord::Word(words)
     } else {
         CommandWord::Refused(Refusal::Unlisted)
     }
 }
 
-// The next word goes out `count` times.
-pub fn hstx_cmd_raw_repeat(count: u32) -> CommandWord
-    ensures { λ r. ⌜ r ≡ commandOf 1 count ⌝ }
+// The next word goes out `times` times.
+pub fn hstx_cmd_raw_repeat(times: u32) -> CommandWord
+    ensures { λ r. ⌜ r ≡ commandOf 1 times ⌝ }
 {
-    if within(1, count) {
-        CommandWord::Word(count + 0x1000)
+    if within(1, times) {
+        CommandWord::Word(times + 0x1000)
     } else {
         CommandWord::Refused(Refusal::Unlisted)
     }
@@ -96,23 +97,14 @@ pub fn control_pair(c0: bool, c1: bool) -> u8
     (c0 as u8) + 2 * (c1 as u8)
 }
 
-const TMDS_CTRL: [u32; 4] = [0x354, 0xab, 0x154, 0x2ab];
-
-fn tmds_ctrl(pair: u8) -> u32
-    requires { ⌜ pair < 4 ⌝ }
-    ensures { λ r. ⌜ (r ≡ control pair) × (r < 1024) ⌝ }
-{
-    TMDS_CTRL[pair as usize]
-}
-
 // A control character: HSYNC and VSYNC on lane 0, CTL0 on lane 1, CTL2 on lane 2. CTL1 and CTL3 are never high here.
 fn control_lanes(h: bool, v: bool, ctl0: bool, ctl2: bool) -> Tmds3
     ensures { λ r. ⌜ r .0 ≡ controlWord (pairOf h v) ctl0 false ctl2 false ⌝ }
 {
-    let lane_0 = tmds_ctrl(control_pair(h, v));
-    let lane_1 = tmds_ctrl(control_pair(ctl0, false));
-    let lane_2 = tmds_ctrl(control_pair(ctl2, false));
-    Tmds3(lane_0 + lane_1 * 0x400 + lane_2 * 0x100000)
+    let lane_0 = TmdsSymbol::control(h, v);
+    let lane_1 = TmdsSymbol::control(ctl0, false);
+    let lane_2 = TmdsSymbol::control(ctl2, false);
+    Tmds3((lane_0.0 as u32) + (lane_1.0 as u32) * 0x400 + (lane_2.0 as u32) * 0x100000)
 }
 
 // The control word for these levels of HSYNC and VSYNC, with nothing announced.
@@ -206,10 +198,7 @@ impl DviTiming {
     pub fn total_lines(self) -> u64
         ensures { λ r. ⌜ r ≡ total self ⌝ }
     {
-        (self.v_front_porch as u64)
-            + (self.v_sync_width as u64)
-            + (self.v_back_porch as u64)
-            + (self.v_active_lines as u64)
+        self.inactive_lines() + (self.v_active_lines as u64)
     }
 }
 

@@ -10,7 +10,7 @@ within-requires : tie.Need-within-requires
 within-requires c κs = search needs
 
 add-t4 : tie.Need-add-t4
-add-t4 c = omega (arith, bounds 1 (c .before .before .args .count) (sym (c .before .within .ensures) ∙ c .if1 .taken))
+add-t4 c = omega (arith, bounds 1 (c .before .before .args .times) (sym (c .before .within .ensures) ∙ c .if1 .taken))
 
 returns : tie.Need-returns
 returns c = simp (sym (c .before .within .ensures) ∙ c .if1 .taken)
