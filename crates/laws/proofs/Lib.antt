@@ -1,9 +1,14 @@
 pub mod Truth
+pub mod Everywhere
 pub mod Finite
 pub mod Integers
 pub mod Tables
 pub mod Counting
+pub mod Digits
+pub mod Fronts
 pub mod Bits
 pub mod Xor
 pub mod Searching
 pub mod Tallies
+pub mod Swaps
+pub mod Spines

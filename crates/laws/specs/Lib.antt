@@ -1,4 +1,6 @@
 pub mod Bit
 pub mod Count
+pub mod Digits
+pub mod Front
 pub mod Range
 pub mod Search

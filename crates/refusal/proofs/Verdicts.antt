@@ -46,6 +46,15 @@ fine h f =
     let z : _≡_ {A = ℕ} 0 1 = cc in
     omega arith
 
+-- a fine verdict, taken apart: the first question holds, and the rest are fine too
+pub holds-first : (t : Bool) (r : Refusal) (v : Verdict) → unless t r v ≡ Fine → T t
+holds-first true r v h = tt
+holds-first false r v h = let z : _≡_ {A = ℕ} 0 1 = cc in absurd (omega arith)
+
+pub fine-rest : (t : Bool) (r : Refusal) (v : Verdict) → unless t r v ≡ Fine → v ≡ Fine
+fine-rest true r v h = h
+fine-rest false r v h = let z : _≡_ {A = ℕ} 0 1 = cc in absurd (omega arith)
+
 -- ---- and none that applies has a lower number
 
 rising-rest : (q : Ask) (qs : List Ask) → T (rising (q ∷ qs)) → T (rising qs)

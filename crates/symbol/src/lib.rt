@@ -31,7 +31,8 @@ impl Tmds3 {
     }
 }
 
-fn in_range(discrepancy: i32) -> bool
+// Whether a lane can stand at this discrepancy.
+pub fn in_range(discrepancy: i32) -> bool
     ensures { λ r. ⌜ r ≡ inRange discrepancy ⌝ }
 {
     (-4 <= discrepancy) & (discrepancy <= 4)

@@ -1,0 +1,107 @@
+-- The transposition, as two delta swaps; and a word's characters from the transposed pairs and the header's word.
+use mathlib.Core.Path.{_≡_, refl, sym, ap, ap₂, _∙_}
+use mathlib.Core.Bool.{_&&_}
+use mathlib.Core.List.{List, [], _∷_}
+use Prim.Native.Nat.{ℕ, _+_, _*_, _/_, _%_, _^_, _<_}
+use native.Mathlib.Nat.{zero-add}
+use native.Mathlib.Omega.{arith}
+use lib.Bits.{bitOr, or-shifted-r}
+use lib.Dec.{T, eqb, eqb→eq}
+use lib.ListN.{getD}
+use Rattle.laws.specs.Bit.{bit}
+use Rattle.laws.proofs.Bits.{bit-mod, bit-shr}
+use Rattle.laws.proofs.Digits.{numeral-agree, numeral-bit}
+use Rattle.laws.proofs.Finite.{below}
+use Rattle.laws.proofs.Swaps.{Swap, swap, swaps, sources, orderly, swaps-bit}
+use Rattle.laws.proofs.Tables.{made, made-at}
+use Rattle.laws.proofs.Truth.{and-left, and-right}
+use Rattle.dvi.specs.Lanes.{lanes}
+use Rattle.hdmi.specs.Terc4.{terc4}
+use Rattle.hdmi.specs.Island.{headerBit, subpacketBit, marker, across, dataWord}
+use Rattle.terc4.specs.Tables.{evens, odds, twoLanes}
+use Rattle.island.specs.Words.{transposed, Bytes, Pairs, Header, pairsOf, wordFrom}
+
+-- ---- the transposition
+
+abbrev pub steps : List Swap
+steps = swap 0xcc00cc 6 ∷ swap 0xf0f0 12 ∷ []
+
+-- the masks are in order, and take each bit from where it has to come from
+in-order : (k : ℕ) → k < 32 → T (orderly 32 steps k && eqb (sources steps k) (transposed k))
+unfolding bit
+in-order = below (λ k. orderly 32 steps k && eqb (sources steps k) (transposed k)) 32 tt
+
+pub transposed-bit : (v k : ℕ) → k < 32 → bit k (swaps 32 steps v) ≡ bit (transposed k) v
+transposed-bit v k h =
+    let t = in-order k h in
+    swaps-bit 32 steps v k h (and-left (orderly 32 steps k) (eqb (sources steps k) (transposed k)) t)
+    ∙ ap (λ (j : ℕ). bit j v)
+    (eqb→eq (sources steps k) (transposed k) (and-right (orderly 32 steps k) (eqb (sources steps k) (transposed k)) t))
+
+-- by pairs: pair s of byte j comes from pair j of byte s
+transposed-pair : (j s o : ℕ) → s < 4 → o < 2 → transposed (8 * j + (2 * s + o)) ≡ 8 * s + (2 * j + o)
+transposed-pair j s o hs ho =
+    let k : ℕ = 8 * j + (2 * s + o) in
+    let a : k / 8 ≡ j = omega arith in
+    let b : k / 2 ≡ 4 * j + s = omega arith in
+    let d : k / 2 % 4 ≡ s = omega arith in
+    omega arith
+
+-- four bytes joined
+pub joined-bytes : (f : ℕ → ℕ) (v : ℕ) → ((s : ℕ) → f s < 256) → v ≡ f 0 + f 1 * 2 ^ 8 + f 2 * 2 ^ 16 + f 3 * 2 ^ 24 → Bytes f v
+unfolding Bytes
+joined-bytes f v small e s n hs hn =
+    ap (bit (8 * s + n)) (e ∙ omega arith) ∙ numeral-bit 8 f small 0 4 s n hs hn ∙ ap (λ (u : ℕ). bit n (f u)) (zero-add s)
+
+-- byte i of the four subpackets, transposed
+pub pairs-of : (p : List ℕ) (i v r : ℕ) → Bytes (λ s. getD p (4 + i + 8 * s) 0) v → ((k : ℕ) → k < 32 → bit k r ≡ bit (transposed k) v) → Pairs p i r
+unfolding Pairs Bytes
+pairs-of p i v r bytes t j s o hj hs ho =
+    t (8 * j + (2 * s + o)) (omega arith) ∙ ap (λ (k : ℕ). bit k v) (transposed-pair j s o hs ho) ∙ bytes s (2 * j + o) hs (omega arith)
+    ∙ ap (λ (m : ℕ). bit (2 * j + o) (getD p m 0)) (omega arith)
+
+pub header-of : (p : List ℕ) (h : ℕ) → Bytes (λ s. getD p (0 + 1 * s) 0) h → Header p h
+unfolding Header headerBit Bytes
+header-of p h bytes k l =
+    let d : k ≡ 8 * (k / 8) + k % 8 = omega arith in
+    ap (λ (j : ℕ). bit j h) d ∙ bytes (k / 8) (k % 8) (omega arith) (omega arith) ∙ ap (λ (m : ℕ). bit (k % 8) (getD p m 0)) (omega arith)
+
+-- ---- the tables
+
+pub symbol-at : (t : List ℕ) (n : ℕ) → t ≡ made terc4 0 16 → n < 16 → getD t n 0 ≡ terc4 n
+symbol-at t n e h = ap (λ (l : List ℕ). getD l n 0) e ∙ made-at terc4 16 n h
+
+pub packed-at : (t : List ℕ) (n : ℕ) → t ≡ made twoLanes 0 256 → n < 256 → getD t n 0 ≡ twoLanes n
+packed-at t n e h = ap (λ (l : List ℕ). getD l n 0) e ∙ made-at twoLanes 256 n h
+
+-- lane 0 or-ed in below the two others
+pub or-lanes : (a b c : ℕ) → a < 1024 → bitOr a (lanes 0 b c) ≡ lanes a b c
+or-lanes a b c h =
+    let y : ℕ = b + c * 2 ^ 10 in
+    let e : lanes 0 b c ≡ y * 2 ^ 10 = omega arith in
+    ap (bitOr a) e ∙ or-shifted-r y 10 a h ∙ omega arith
+
+-- ---- one character
+
+module _ (p : List ℕ) (i j v : ℕ) (hj : j < 4) (pairs : Pairs p i v) where
+  pair : (k s o : ℕ) → k ≡ 4 * i + j → s < 4 → o < 2 → bit (2 * s + o) (pairsOf v k) ≡ subpacketBit p s (2 * k + o)
+  unfolding Pairs subpacketBit
+  pair k s o e hs ho =
+      let a : k % 4 ≡ j = omega arith in
+      let b : 2 * j + o ≡ (2 * k + o) % 8 = omega arith in
+      let d : i ≡ (2 * k + o) / 8 = omega arith in
+      bit-mod (2 * s + o) 8 (v / 2 ^ (8 * (k % 4))) (omega arith) ∙ bit-shr (2 * s + o) (8 * (k % 4)) v
+      ∙ ap (λ (u : ℕ). bit (8 * u + (2 * s + o)) v) a ∙ pairs j s o hj hs ho
+      ∙ ap₂ (λ (x y : ℕ). bit x (getD p (4 + 8 * s + y) 0)) b d
+
+  pub word-of : (hv h k : ℕ) → k ≡ 4 * i + j → k < 32 → Header p h → wordFrom hv h v k ≡ dataWord hv p k
+  unfolding wordFrom dataWord Header
+  word-of hv h k e l head =
+      let x : ℕ = pairsOf v k in
+      let one : evens x ≡ across p (2 * k) =
+      numeral-agree 1 (λ s. bit (2 * s) x) (λ s. subpacketBit p s (2 * k)) 0 4
+      (λ s a b. ap (λ (u : ℕ). bit u x) (omega arith) ∙ pair k s 0 e b (omega arith) ∙ ap (subpacketBit p s) (omega arith)) in
+      let two : odds x ≡ across p (2 * k + 1) =
+      numeral-agree 1 (λ s. bit (2 * s + 1) x) (λ s. subpacketBit p s (2 * k + 1)) 0 4 (λ s a b. pair k s 1 e b (omega arith)) in
+      ap₂ (λ (a b : ℕ). lanes (terc4 (hv + 4 * a + marker k)) (terc4 b) (terc4 (odds x))) (head k l) one
+      ∙ ap (λ (b : ℕ). lanes (terc4 (hv + 4 * headerBit p k + marker k)) (terc4 (across p (2 * k))) (terc4 b)) two

@@ -1,0 +1,4 @@
+pub mod Answers
+pub mod Characters
+pub mod Edges
+pub mod Filling

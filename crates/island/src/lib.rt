@@ -1,0 +1,148 @@
+// The data island's writer: the header goes on lane 0, and the four subpackets, transposed, on lanes 1 and 2.
+ghost use mathlib.Core.Path.{_≡_};
+ghost use Prim.Native.Nat.{ℕ, _+_, _*_, _^_, _<_};
+ghost use lib.ListN.{length, getD};
+ghost use Rattle.laws.specs.Bit.{bit};
+ghost use Rattle.laws.specs.Front.{Front};
+ghost use Rattle.laws.proofs.Tables.{made};
+ghost use Rattle.refusal.specs.Verdict.{verdict, kept};
+ghost use Rattle.hdmi.specs.Terc4.{terc4};
+ghost use Rattle.hdmi.specs.Island.{guardWord, marker, island};
+ghost use Rattle.terc4.specs.Tables.{twoLanes};
+ghost use Rattle.island.specs.Encode.{encodeAsks};
+ghost use Rattle.island.specs.Words.{transposed, Bytes, Pairs, Header, wordFrom};
+use refusal::Refusal;
+use refusal::Verdict;
+
+// The transposition of four bytes of four bit pairs each.
+fn transpose(v: u32) -> u32
+    ensures { λ r. ⌜ ((k : ℕ) → k < 32 → bit k r ≡ bit (transposed k) v) ⌝ }
+{
+    let t = (v ^ (v >> 6)) & 0xcc00cc;
+    let w = v ^ t ^ (t << 6);
+    let u = (w ^ (w >> 12)) & 0xf0f0;
+    w ^ u ^ (u << 12)
+}
+
+// Four bytes in a word, the first lowest.
+fn join(a: u8, b: u8, c: u8, d: u8) -> u32
+    ensures { λ r. ⌜ r ≡ a + b * 2 ^ 8 + c * 2 ^ 16 + d * 2 ^ 24 ⌝ }
+{
+    (a as u32) | ((b as u32) << 8) | ((c as u32) << 16) | ((d as u32) << 24)
+}
+
+// Four bytes of a packet, from one place on and a step apart.
+fn gather(packet: &[u8], at: usize, step: usize) -> u32
+    requires { ⌜ (length (now packet) ≡ 36) × (at < 12) × (step < 9) × (at + 3 * step < 36) ⌝ }
+    ensures { λ r. ⌜ Bytes (λ (s : ℕ). getD (now (packet .entry)) (at + step * s) 0) r ⌝ }
+{
+    join(
+        packet[at],
+        packet[at + step],
+        packet[at + 2 * step],
+        packet[at + 3 * step],
+    )
+}
+
+// The bit pairs of byte i of each subpacket.
+fn pairs(packet: &[u8], i: usize) -> u32
+    requires { ⌜ (length (now packet) ≡ 36) × (i < 8) ⌝ }
+    ensures { λ r. ⌜ Pairs (now (packet .entry)) i r ⌝ }
+{
+    transpose(gather(packet, 4 + i, 8))
+}
+
+// Lane 0's number at character k: the sync pair, the header's bit h, and the marker at each but the first.
+fn lane_zero(hv: usize, h: usize, k: usize) -> usize
+    requires { ⌜ (hv < 4) × (h < 2) ⌝ }
+    ensures { λ r. ⌜ (r ≡ hv + 4 * h + marker k) × (r < 16) ⌝ }
+{
+    if k == 0 {
+        return hv + 4 * h;
+    }
+    hv + 4 * h + 8
+}
+
+// Character k, by the two tables.
+fn data_word(
+    symbols: &[u16; 16],
+    packed: &[u32; 256],
+    hv: usize,
+    header: u32,
+    pairs: u32,
+    k: usize,
+) -> u32
+    requires { ⌜ (now symbols ≡ made terc4 0 16) × (now packed ≡ made twoLanes 0 256) × (hv < 4) × (k < 32) ⌝ }
+    ensures { λ r. ⌜ r ≡ wordFrom hv header pairs k ⌝ }
+{
+    let zero = lane_zero(hv, ((header >> k) % 2) as usize, k);
+    let two = ((pairs >> (8 * (k % 4))) % 256) as usize;
+    (symbols[zero] as u32) | packed[two]
+}
+
+// The guard word of a sync pair.
+fn guard(symbols: &[u16; 16], hv: usize) -> u32
+    requires { ⌜ (now symbols ≡ made terc4 0 16) × (hv < 4) ⌝ }
+    ensures { λ r. ⌜ r ≡ guardWord hv ⌝ }
+{
+    (symbols[12 + hv] as u32) | 0x1334cc00
+}
+
+// Characters 4 i to 4 i + 3, where the words before them stand.
+fn put_four(
+    symbols: &[u16; 16],
+    packed: &[u32; 256],
+    hv: usize,
+    header: u32,
+    packet: &[u8],
+    i: usize,
+    words: &mut [u32],
+)
+    requires { ⌜ (now symbols ≡ made terc4 0 16) × (now packed ≡ made twoLanes 0 256) × (hv < 4) × (length (now packet) ≡ 36) × Header (now packet) header × (i < 8) × (length (now words) ≡ 36) × Front (island hv (now packet)) (2 + 4 * i) (now words) ⌝ }
+    ensures { λ _. ⌜ Front (island hv (now (packet .entry))) (2 + 4 * (i + 1)) (now (words .exit)) ⌝ }
+{
+    let v = pairs(packet, i);
+    let k = 4 * i;
+    words[2 + k] = data_word(symbols, packed, hv, header, v, k);
+    words[3 + k] = data_word(symbols, packed, hv, header, v, k + 1);
+    words[4 + k] = data_word(symbols, packed, hv, header, v, k + 2);
+    words[5 + k] = data_word(symbols, packed, hv, header, v, k + 3);
+}
+
+// The whole island.
+fn fill(symbols: &[u16; 16], packed: &[u32; 256], hv: usize, packet: &[u8], words: &mut [u32])
+    requires { ⌜ (now symbols ≡ made terc4 0 16) × (now packed ≡ made twoLanes 0 256) × (hv < 4) × (length (now packet) ≡ 36) × (length (now words) ≡ 36) ⌝ }
+    ensures { λ _. ⌜ now (words .exit) ≡ island hv (now (packet .entry)) ⌝ }
+{
+    let g = guard(symbols, hv);
+    let header = gather(packet, 0, 1);
+    words[0] = g;
+    words[1] = g;
+    let mut i = 0;
+    while i < 8 {
+        put_four(symbols, packed, hv, header, packet, i, words);
+        i += 1;
+    }
+    words[34] = g;
+    words[35] = g;
+}
+
+// The 36 words of an island with one packet. The packet's parity bytes are sent as they are.
+pub fn encode(hv: u8, packet: &[u8], words: &mut [u32]) -> Verdict
+    ensures answer { λ r. ⌜ r ≡ verdict (encodeAsks hv (now (packet .entry)) (now (words .entry))) ⌝ }
+    ensures written { λ _. ⌜ now (words .exit) ≡ kept (verdict (encodeAsks hv (now (packet .entry)) (now (words .entry)))) (island hv (now (packet .entry))) (now (words .entry)) ⌝ }
+{
+    if packet.len() != 36 {
+        return Verdict::Refused(Refusal::Length);
+    }
+    if words.len() != 36 {
+        return Verdict::Refused(Refusal::Length);
+    }
+    if 4 <= hv {
+        return Verdict::Refused(Refusal::SyncPair);
+    }
+    let symbols = terc4::symbols();
+    let packed = terc4::packed();
+    fill(&symbols, &packed, hv as usize, packet, words);
+    Verdict::Fine
+}

@@ -1,0 +1,4 @@
+pub mod Ends
+pub mod Lookups
+pub mod Rules
+pub mod Turns

@@ -1,0 +1,62 @@
+-- What an entry of the reader's table tells of its symbol, and what a scan tells of a row.
+use mathlib.Core.Path.{_≡_, refl, sym, ap, _∙_}
+use mathlib.Core.Bool.{Bool, true, false, not, cond}
+use mathlib.Core.List.{List, [], _∷_, _++_, map, append-assoc, append-nil}
+use Prim.Native.Nat.{ℕ, zero, suc, _+_, _≤_, _<_}
+use native.Mathlib.Numerals.{add-one}
+use native.Mathlib.Omega.{arith}
+use borrow.Author.Tests.{le-ltb, not-false}
+use lib.Dec.{T}
+use lib.ListN.{length, take, drop, getD, set, drop-of-length-le}
+use lib.Seq.{drop-cons, take-suc-set, take-all}
+use Rattle.laws.proofs.Truth.{true-T}
+use Rattle.laws.proofs.Searching.{before}
+use Rattle.dvi.specs.Decoder.{byteOf, isData}
+use Rattle.dvi.specs.Row.{rowBytes}
+use Rattle.dvi.proofs.Decoding.{byte-small, is-small}
+use Rattle.row.specs.Answer.{firstBad}
+use Rattle.row.specs.Lookup.{entryOf}
+
+module _ (s : ℕ) where
+  -- more than ten bits are no data symbol
+  pub entry-above : 1024 ≤ s → entryOf s ≡ 256
+  unfolding isData
+  entry-above h = simp (le-ltb s 1024 h)
+
+  pub byte-below : isData s ≡ true → byteOf s < 256
+  byte-below e = byte-small s (is-small s (true-T e))
+
+  pub entry-of-data : isData s ≡ true → entryOf s ≡ byteOf s
+  entry-of-data e = simp e
+
+  none-by : (t : Bool) → isData s ≡ t → 255 < cond t (byteOf s) 256 → t ≡ false
+  none-by true e h = let l = byte-below e in absurd (omega arith)
+  none-by false e h = refl
+
+  pub none-above : 255 < entryOf s → isData s ≡ false
+  none-above h = none-by (isData s) refl h
+
+  data-by : (t : Bool) → cond t (byteOf s) 256 ≤ 255 → t ≡ true
+  data-by true h = refl
+  data-by false h = absurd (omega arith)
+
+  pub data-below : entryOf s ≤ 255 → isData s ≡ true
+  data-below h = data-by (isData s) h
+
+-- a row that was scanned to its end is all data symbols
+pub scanned : (ss : List ℕ) → firstBad ss ≡ length ss → (i : ℕ) → i < length ss → isData (getD ss i 0) ≡ true
+scanned ss e i h =
+    let l : i < firstBad ss = rw e h in
+    not-false (isData (getD ss i 0)) (before (λ i. not (isData (getD ss i 0))) 0 (length ss) i (omega arith) l)
+
+-- one byte more is unpacked
+pub unpacked-more : (ss out : List ℕ) (i v : ℕ) → i < length ss → i < length out → v ≡ byteOf (getD ss i 0)
+    → take (i + 1) (set out i v) ++ rowBytes (drop (i + 1) ss) ≡ take i out ++ rowBytes (drop i ss)
+unpacked-more ss out i v h k e = simp (e, add-one, take-suc-set, drop-cons ss i 0 h, append-assoc)
+
+pub unpacked-all : (ss out : List ℕ) (i : ℕ) → length ss ≤ i → length out ≡ length ss
+    → take i out ++ rowBytes (drop i ss) ≡ rowBytes ss → out ≡ rowBytes ss
+unpacked-all ss out i l e r =
+    let p : drop i ss ≡ [] = drop-of-length-le ss l in
+    let q : take i out ≡ out = take-all i out (omega arith) in
+    simp (p, q, append-nil) at r

@@ -1,0 +1,99 @@
+-- `encode_row` writes DVI 1.0's row, or nothing.
+use mathlib.Core.Path.{_≡_, refl, sym, ap, _∙_}
+use mathlib.Core.List.{List, []}
+use Prim.Native.Nat.{ℕ, _<_}
+use borrow.Author.Needs.{needs, sfits-of}
+use lib.Dec.{T, leb, eqb, eqb→eq}
+use lib.IntN.{ℤ}
+use lib.ListN.{length}
+use mir.Syntax.{w32}
+use mir.Val.{toZ, ofZ}
+use mir.Facts.{toZ-ofZ}
+use Rattle.laws.proofs.Truth.{and-right}
+use Rattle.dvi.specs.Row.{rowSymbols, rowEnd}
+use Rattle.dvi.specs.Symbol.{inRange, symbolOf, nextOf}
+use Rattle.refusal.specs.declared.Refusal.the-variants.{Length, Discrepancy}
+use Rattle.refusal.specs.declared.Verdict.the-variants.{Fine}
+use Rattle.refusal.specs.Verdict.{verdict, unless}
+use Rattle.refusal.proofs.Verdicts.{holds-first, fine-rest}
+use Rattle.row.specs.declared.RowEncoded.the-variants.{Done}
+use Rattle.row.specs.Answer.{lengthsFit, encodeRowAsks}
+use Rattle.row.specs.Shift.{unbiased, held}
+use Rattle.row.proofs.Rules.{rule}
+use Rattle.row.proofs.encode_row.Statement.{statement}
+use Rattle.row.proofs.encode_row.Tie as tie
+
+encode-verdict-requires : tie.Need-encode-verdict-requires
+encode-verdict-requires c κs = search needs
+
+enum-known-v : tie.Need-enum-known-v
+enum-known-v c = search needs
+
+enum-told : tie.Need-enum-told
+enum-told c = search needs
+
+-- nothing was refused: the lengths fit, and the discrepancy is in range
+module _ (d : ℤ) (row room : ℕ) (fine : verdict (encodeRowAsks d row room) ≡ Fine) where
+  same-lengths : room ≡ row
+  same-lengths =
+      eqb→eq room row (and-right (leb row 4096) (eqb room row) (holds-first (lengthsFit row room) Length (unless (inRange d) Discrepancy Fine) fine))
+
+  ranged : T (inRange d)
+  ranged = holds-first (inRange d) Discrepancy Fine (fine-rest (lengthsFit row room) Length (unless (inRange d) Discrepancy Fine) fine)
+
+-- the verdict, at the discrepancy as it was before it became 32 bits
+judged : (c : tie.After-encode-verdict) → verdict (encodeRowAsks (c .before .before .before .args .discrepancy) (length (c .before .before .before .args .bytes .now)) (length (c .before .before .before .args .out .now))) ≡ c .encode-verdict .result
+judged c = sym (rw (toZ-ofZ (c .before .before .before .fits .discrepancy)) at (c .encode-verdict .ensures))
+
+is-fine : (c : tie.After-enum-told) → verdict (encodeRowAsks (c .before .before .before .before .before .args .discrepancy) (length (c .before .before .before .before .before .args .bytes .now)) (length (c .before .before .before .before .before .args .out .now))) ≡ Fine
+is-fine c = judged (c .before .before) ∙ c .enum-told .given .1
+
+in-range : (c : tie.After-enum-told) → T (inRange (c .before .before .before .before .before .args .discrepancy))
+in-range c = let a = c .before .before .before .before .before .args in ranged (a .discrepancy) (length (a .bytes .now)) (length (a .out .now)) (is-fine c)
+
+as-long : (c : tie.After-enum-told) → length (c .before .before .before .before .before .args .out .now) ≡ length (c .before .before .before .before .before .args .bytes .now)
+as-long c = let a = c .before .before .before .before .before .args in same-lengths (a .discrepancy) (length (a .bytes .now)) (length (a .out .now)) (is-fine c)
+
+begun-requires : tie.Need-begun-requires
+begun-requires c κs =
+    rw (toZ-ofZ (c .before .before .before .before .before .before .before .fits .discrepancy)) (in-range (c .before .before))
+
+fill-requires : tie.Need-fill-requires
+unfolding symbolOf nextOf
+fill-requires c κs = (rule _ _ tt, search needs, as-long (c .before .before .before .before))
+
+ended-requires : tie.Need-ended-requires
+ended-requires c κs = search needs
+
+returns : tie.Need-returns
+returns c =
+    let e = judged (c .before .before .before) ∙ c .before .v .given .1 in
+    let z = toZ-ofZ (c .before .before .before .before .before .before .fits .discrepancy) in
+    rw (e, z) (refl, refl)
+
+same-length : tie.Need-same-length
+same-length c = search needs
+
+returns-2 : tie.Need-returns-2
+returns-2 c =
+    let a = c .before .before .before .before .before .before .before .before .before .before .before .before .before in
+    let f = c .before .before .before .fill .ensures in
+    let b : unbiased (held (c .before .before .before .before .before .begun .result)) ≡ a .args .discrepancy =
+    rw (toZ-ofZ (a .fits .discrepancy)) at (c .before .before .before .before .before .begun .ensures .1) in
+    let n : c .ended .result ≡ rowEnd (a .args .discrepancy) (a .args .bytes .now) =
+    c .ended .ensures ∙ f .0 .1 ∙ ap (λ (d : ℤ). rowEnd d (a .args .bytes .now)) b in
+    rw (is-fine (c .before .before .before .before .before .before .before .before)) (ap Done (toZ-ofZ (sfits-of (c .ended .ok)) ∙ n), f .1 ∙ ap (λ (d : ℤ). rowSymbols d (a .args .bytes .now)) b)
+
+pub encode-row-spec : {M : Type 1} → statement M
+encode-row-spec =
+    tie.close
+    (tie.spec
+    encode-verdict-requires
+    enum-known-v
+    enum-told
+    begun-requires
+    fill-requires
+    ended-requires
+    returns
+    same-length
+    returns-2)

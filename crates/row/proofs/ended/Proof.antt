@@ -1,0 +1,17 @@
+-- `ended` meets its contract.
+use borrow.Author.Needs.{needs}
+use Rattle.row.proofs.Ends.{less-four-fits, less-four}
+use Rattle.row.proofs.ended.Statement.{statement}
+use Rattle.row.proofs.ended.Tie as tie
+
+cast-result : tie.Need-cast-result
+cast-result c = search needs
+
+sub-result : tie.Need-sub-result
+sub-result c = less-four-fits _ (c .pre .small)
+
+returns : tie.Need-returns
+returns c = less-four _ (c .pre .small)
+
+pub ended-spec : {M : Type 1} → statement M
+ended-spec = tie.close (tie.spec cast-result sub-result returns)
