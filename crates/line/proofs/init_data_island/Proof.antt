@@ -1,3 +1,9 @@
+-- `line::init_data_island` meets its contract.
+use mathlib.Core.Path.{sym, _∙_}
+use lib.ListN.{length}
+use denote.Ref.{now}
+use Rattle.timing.proofs.Upward.{writes, leaves}
+use Rattle.line.proofs.Ready.{line-held}
 use borrow.Author.Needs.{needs}
 use Rattle.line.proofs.init_data_island.Statement.{statement}
 use Rattle.line.proofs.init_data_island.Tie as tie
@@ -12,16 +18,18 @@ enum-told-2 : tie.Need-enum-told-2
 enum-told-2 c = search needs
 
 returns : tie.Need-returns
-returns c = ?
+returns c = (c .before .before .line-ready .ensures, leaves (c .before .before .line-ready .ensures) _ _ (c .enum-told2 .given .1))
 
 init-words-requires : tie.Need-init-words-requires
-init-words-requires c κs = ?
+init-words-requires c κs = line-held (c .before .before .before .before .before .args .timing) (length (now (c .before .before .before .before .before .args .line))) 56 (sym (c .before .before .before .line-ready .ensures) ∙ c .before .enum-told .given .1)
 
 same-length : tie.Need-same-length
 same-length c = search needs
 
 returns-2 : tie.Need-returns-2
-returns-2 c = ?
+returns-2 c =
+    let judged = c .before .before .before .before .before .before .line-ready .ensures in
+    (judged, c .before .before .init-words .ensures ∙ writes judged _ _ (c .before .before .before .before .enum-told .given .1))
 
 pub init-data-island-spec : {M : Type 1} → statement M
 init-data-island-spec =
