@@ -40,7 +40,7 @@ unfolding initLine islandWords island
 init-made t l h = on-spine 56 (λ m. initStored t m ≡ initLine t m) l h refl
 
 -- an island line of which the island is e and the last ten words are r
-abbrev around : DviTiming → ℕ → List ℕ → List ℕ → List Send
+abbrev pub around : DviTiming → ℕ → List ℕ → List ℕ → List Send
 around t s e r =
     repeat (t .«h_front_porch» - 8) (syncFor t false (vSync s)) ∷ repeat 8 (dataPreamble (pairFor t false (vSync s))) ∷ raw e
     ∷ repeat (t .«h_sync_width» - 36) (syncFor t true (vSync s)) ∷ repeat (t .«h_back_porch» - 10) (syncFor t false (vSync s)) ∷ raw r ∷ []
