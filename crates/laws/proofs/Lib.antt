@@ -12,5 +12,6 @@ pub mod Spines
 pub mod Stores
 pub mod Swaps
 pub mod Tables
+pub mod Tallies
 pub mod Truth
 pub mod Xor
