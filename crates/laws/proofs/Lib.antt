@@ -11,3 +11,4 @@ pub mod Xor
 pub mod Searching
 pub mod Swaps
 pub mod Spines
+pub mod Bytes

@@ -2,3 +2,4 @@ pub mod Ends
 pub mod Lookups
 pub mod Rules
 pub mod Turns
+pub mod Asked

@@ -1,3 +1,4 @@
 pub mod Answer
 pub mod Lookup
 pub mod Shift
+pub mod Wire
