@@ -3,3 +3,4 @@ pub mod Lookups
 pub mod Rules
 pub mod Turns
 pub mod Asked
+pub mod Symbols

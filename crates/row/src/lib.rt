@@ -19,7 +19,7 @@ ghost use Rattle.refusal.specs.Verdict.{verdict};
 ghost use Rattle.row.specs.Answer.{lengthsFit, encodeRowAsks, encodeRowOf, encodeRowOut, firstBad, readRowAsks, readRowOut};
 ghost use Rattle.row.specs.Lookup.{entryOf, Entries};
 ghost use Rattle.row.specs.Shift.{held, Field, Rule, Written, Stored, unbiased};
-ghost use Rattle.row.specs.Wire.{encodeBytesOf, encodeBytesOut};
+ghost use Rattle.row.specs.Wire.{encodeBytesOf, encodeBytesOut, symbolsIn, readBytesAsks, readBytesOut};
 
 // The byte's word, moved to the field of the discrepancy that x holds.
 fn moved(shifts: &[u64; 256], x: u64, byte: u8) -> u64
@@ -286,4 +286,65 @@ pub fn encode_row_bytes(discrepancy: i32, bytes: &[u8], out: &mut [u8]) -> RowEn
             RowEncoded::Done(ended(x))
         }
     }
+}
+
+fn word(low: u8, high: u8) -> u16
+    ensures { λ r. ⌜ r ≡ low + 256 * high ⌝ }
+{
+    (low as u16) + 256 * (high as u16)
+}
+
+// Symbol i of a buffer of bytes.
+fn symbol_at(lent: &[u8], i: usize) -> u16
+    requires { ⌜ i < length (now lent) / 2 ⌝ }
+    ensures { λ r. ⌜ r ≡ getD (symbolsIn (now (lent .entry))) i 0 ⌝ }
+{
+    word(lent[2 * i], lent[2 * i + 1])
+}
+
+// The index of the first symbol that is no data symbol, or their number where there is none.
+fn scan_stored(bytes: &[u16; 1024], lent: &[u8]) -> usize
+    requires { ⌜ Entries (now bytes) ⌝ }
+    ensures { λ r. ⌜ r ≡ firstBad (symbolsIn (now (lent .entry))) ⌝ }
+{
+    let n = lent.len() / 2;
+    let mut i = 0;
+    while i < n {
+        if looked_up(bytes, symbol_at(lent, i)) > 255 {
+            return i;
+        }
+        i += 1;
+    }
+    i
+}
+
+// The bytes of a row that was scanned.
+fn unpack_stored(bytes: &[u16; 1024], lent: &[u8], out: &mut [u8])
+    requires { ⌜ Entries (now bytes) × (length (now out) ≡ length (now lent) / 2) × (firstBad (symbolsIn (now lent)) ≡ length (now lent) / 2) ⌝ }
+    ensures { λ _. ⌜ now (out .exit) ≡ rowBytes (symbolsIn (now (lent .entry))) ⌝ }
+{
+    let mut i = 0;
+    while i < out.len() {
+        out[i] = (looked_up(bytes, symbol_at(lent, i)) % 256) as u8;
+        i += 1;
+    }
+}
+
+// The bytes of a row of symbols of two bytes each. Nothing is written before every symbol was looked at.
+pub fn read_row_bytes(lent: &[u8], out: &mut [u8]) -> Verdict
+    ensures answer { λ r. ⌜ r ≡ verdict (readBytesAsks (now (lent .entry)) (length (now (out .entry)))) ⌝ }
+    ensures bytes { λ _. ⌜ now (out .exit) ≡ readBytesOut (now (lent .entry)) (now (out .entry)) ⌝ }
+{
+    if lent.len() % 2 != 0 {
+        return Verdict::Refused(Refusal::Length);
+    }
+    if !lengths_fit(lent.len() / 2, out.len()) {
+        return Verdict::Refused(Refusal::Length);
+    }
+    let bad = scan_stored(&BYTES, lent);
+    if bad != lent.len() / 2 {
+        return Verdict::Refused(Refusal::NotData(bad));
+    }
+    unpack_stored(&BYTES, lent, out);
+    Verdict::Fine
 }
