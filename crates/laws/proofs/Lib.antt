@@ -2,6 +2,7 @@ pub mod Truth
 pub mod Everywhere
 pub mod Finite
 pub mod Integers
+pub mod Stores
 pub mod Tables
 pub mod Counting
 pub mod Digits
