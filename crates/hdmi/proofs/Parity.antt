@@ -11,8 +11,8 @@ use lib.Dec.{T, eqb, eqb→eq}
 use lib.ListN.{length, replicate, getD, drop, take, length-append}
 use lib.Seq.{drop-cons, take-at, getD-append-seam}
 use borrow.Author.Tests.{eq-eqb}
-use Rattle.laws.specs.Bytes.{bytesOf}
-use Rattle.laws.proofs.Bytes.{length-bytes}
+use Rattle.laws.specs.Bytes.{lowFirst}
+use Rattle.laws.proofs.Bytes.{length-low-first}
 use Rattle.laws.proofs.Truth.{true-T}
 use Rattle.laws.proofs.Finite.{bounded}
 use Rattle.laws.proofs.Linear.{Linear}
@@ -81,14 +81,14 @@ parity-zeros zero = refl
 parity-zeros (suc n) = parity-zeros n
 
 -- so it is of a number's bytes
-bytes-xor : (n a b : ℕ) → bytesOf n (bitXor a b) ≡ xors (bytesOf n a) (bytesOf n b)
+bytes-xor : (n a b : ℕ) → lowFirst n (bitXor a b) ≡ xors (lowFirst n a) (lowFirst n b)
 bytes-xor zero a b = refl
 bytes-xor (suc n) a b =
-    ap₂ (λ (x : ℕ) (l : List ℕ). x ∷ l) (xor-mod a b 8) (ap (bytesOf n) (xor-shr a b 8) ∙ bytes-xor n (a / 256) (b / 256))
+    ap₂ (λ (x : ℕ) (l : List ℕ). x ∷ l) (xor-mod a b 8) (ap (lowFirst n) (xor-shr a b 8) ∙ bytes-xor n (a / 256) (b / 256))
 
-pub parity-linear : (n : ℕ) → Linear (λ w. parity (bytesOf n w))
+pub parity-linear : (n : ℕ) → Linear (λ w. parity (lowFirst n w))
 parity-linear n a b =
-    ap parity (bytes-xor n a b) ∙ parity-xor (bytesOf n a) (bytesOf n b) (length-bytes n a ∙ sym (length-bytes n b))
+    ap parity (bytes-xor n a b) ∙ parity-xor (lowFirst n a) (lowFirst n b) (length-low-first n a ∙ sym (length-low-first n b))
 
 -- zero bytes in front of a block change nothing
 pub parity-zeros-first : (n : ℕ) (xs : List ℕ) → parity (replicate n 0 ++ xs) ≡ parity xs

@@ -6,7 +6,7 @@ use lib.Dec.{T, eqb}
 use lib.Pow.{shr-lt, pow-mono}
 use native.Mathlib.Nat.{lt-of-lt-of-le}
 use native.Mathlib.Omega.{arith}
-use Rattle.laws.specs.Bytes.{bytesOf}
+use Rattle.laws.specs.Bytes.{lowFirst}
 use Rattle.laws.proofs.Finite.{all, agreed}
 use Rattle.laws.proofs.Linear.{Linear, linear-sum, linear-after, linear-shl, linear-shr, linear-ext}
 use Rattle.hdmi.specs.Parity.{parity, sent}
@@ -55,12 +55,12 @@ divided-linear =
 
 -- ---- and right
 
-on-powers : (k : ℕ) → k < 64 → divided (2 ^ k) ≡ parity (bytesOf 8 (2 ^ k))
+on-powers : (k : ℕ) → k < 64 → divided (2 ^ k) ≡ parity (lowFirst 8 (2 ^ k))
 unfolding divided lastSpread above parity sent
-on-powers k h = agreed (λ k. divided (2 ^ k)) (λ k. parity (bytesOf 8 (2 ^ k))) 64 tt k h
+on-powers k h = agreed (λ k. divided (2 ^ k)) (λ k. parity (lowFirst 8 (2 ^ k))) 64 tt k h
 
-pub divided-parity : (w : ℕ) → w < 2 ^ 64 → divided w ≡ parity (bytesOf 8 w)
-divided-parity w h = linear-ext divided (λ w. parity (bytesOf 8 w)) divided-linear (parity-linear 8) 64 on-powers w h
+pub divided-parity : (w : ℕ) → w < 2 ^ 64 → divided w ≡ parity (lowFirst 8 w)
+divided-parity w h = linear-ext divided (λ w. parity (lowFirst 8 w)) divided-linear (parity-linear 8) 64 on-powers w h
 
 pub above-lt : (q : ℕ) → q < 2 ^ 64 → bitXor (bitXor (q / 2 ^ 56) (q / 2 ^ 62)) (q / 2 ^ 63) < 2 ^ 8
 above-lt q h =

@@ -2,7 +2,7 @@
 ghost use mathlib.Core.Path.{_≡_};
 ghost use mathlib.Core.List.{[], _∷_};
 ghost use Prim.Native.Nat.{_<_};
-ghost use Rattle.laws.specs.Bytes.{bytesOf};
+ghost use Rattle.laws.specs.Bytes.{lowFirst};
 ghost use Rattle.hdmi.specs.Parity.{parity};
 ghost use Rattle.parity.specs.Steps.{EightSteps};
 ghost use Rattle.parity.specs.Word.{spreadBy};
@@ -313,7 +313,7 @@ pub fn subpacket_parity(bytes: [u8; 7]) -> u8
 
 // Eight bytes as a word, the first in the lowest bits.
 fn word(a: u8, b: u8, c: u8, d: u8, e: u8, f: u8, g: u8, h: u8) -> u64
-    ensures { λ r. ⌜ bytesOf 8 r ≡ a ∷ b ∷ c ∷ d ∷ e ∷ f ∷ g ∷ h ∷ [] ⌝ }
+    ensures { λ r. ⌜ lowFirst 8 r ≡ a ∷ b ∷ c ∷ d ∷ e ∷ f ∷ g ∷ h ∷ [] ⌝ }
 {
     let low = a as u64 + 256 * (b as u64 + 256 * (c as u64 + 256 * (d as u64)));
     let high = e as u64 + 256 * (f as u64 + 256 * (g as u64 + 256 * (h as u64)));
@@ -324,7 +324,7 @@ fn word(a: u8, b: u8, c: u8, d: u8, e: u8, f: u8, g: u8, h: u8) -> u64
 // at each call. The quotient by the generator, as a power series, is the word times 1 / (1 + u), where u = x + x^2 + x^8. That is the product of
 // 1 + u, 1 + u^2, 1 + u^4 and so on, and u^2 has u's exponents doubled. What lies above the word in quotient times generator is the register.
 fn word_parity(w: u64) -> u8
-    ensures { λ r. ⌜ r ≡ parity (bytesOf 8 w) ⌝ }
+    ensures { λ r. ⌜ r ≡ parity (lowFirst 8 w) ⌝ }
 {
     let a = spread(w, 1, 2, 8);
     let b = spread(a, 2, 4, 16);

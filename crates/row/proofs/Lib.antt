@@ -7,3 +7,5 @@ pub mod Order
 pub mod Reading
 pub mod Rules
 pub mod Turns
+pub mod Asked
+pub mod Symbols

@@ -2,3 +2,4 @@ pub mod Answer
 pub mod Lookup
 pub mod Pieces
 pub mod Shift
+pub mod Wire

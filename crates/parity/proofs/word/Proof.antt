@@ -4,8 +4,8 @@ use mathlib.Core.List.{List, [], _∷_}
 use Prim.Native.Nat.{ℕ, _+_, _*_}
 use native.Mathlib.Omega.{arith}
 use borrow.Author.Needs.{needs}
-use Rattle.laws.specs.Bytes.{bytesOf, wordOf}
-use Rattle.laws.proofs.Bytes.{word-bytes}
+use Rattle.laws.specs.Bytes.{lowFirst, fromLow}
+use Rattle.laws.proofs.Bytes.{read-written}
 use Rattle.parity.proofs.word.Statement.{statement}
 use Rattle.parity.proofs.word.Tie as tie
 
@@ -55,8 +55,8 @@ returns : tie.Need-returns
 returns c =
     let x = c .args in
     let bytes : List ℕ = x .a ∷ x .b ∷ x .c ∷ x .d ∷ x .e ∷ x .f ∷ x .g ∷ x .h ∷ [] in
-    let whole : x .a + 256 * (x .b + 256 * (x .c + 256 * x .d)) + 4294967296 * (x .e + 256 * (x .f + 256 * (x .g + 256 * x .h))) ≡ wordOf bytes = omega arith in
-    ap (bytesOf 8) whole ∙ word-bytes bytes (search needs)
+    let whole : x .a + 256 * (x .b + 256 * (x .c + 256 * x .d)) + 4294967296 * (x .e + 256 * (x .f + 256 * (x .g + 256 * x .h))) ≡ fromLow bytes = omega arith in
+    ap (lowFirst 8) whole ∙ read-written bytes (search needs)
 
 pub word-spec : {M : Type 1} → statement M
 word-spec =
