@@ -1,4 +1,4 @@
--- `packet::set_audio`: each refusal by the test that led to it, with the count as it came in; else the packet and the next count.
+-- `audio::set_audio`: each refusal by the test that led to it, with the count as it came in; else the packet and the next count.
 use mathlib.Core.Path.{_≡_, refl, sym, ap, _∙_}
 use Prim.Native.Nat.{ℕ, _%_, _<_}
 use native.Mathlib.Omega.{arith}
@@ -10,10 +10,10 @@ use lib.ListN.{length}
 use mir.Syntax.{w32}
 use mir.Val.{toZ, ofZ}
 use mir.Facts.{toZ-ofZ, toZ-pos}
-use Rattle.packet.specs.declared.FrameCount.the-variants.{Next}
-use Rattle.packet.proofs.Counts.{under, over, within}
-use Rattle.packet.proofs.set_audio.Statement.{statement}
-use Rattle.packet.proofs.set_audio.Tie as tie
+use Rattle.audio.specs.declared.FrameCount.the-variants.{Next}
+use Rattle.audio.proofs.Counts.{under, over, within}
+use Rattle.audio.proofs.set_audio.Statement.{statement}
+use Rattle.audio.proofs.set_audio.Tie as tie
 
 returns : tie.Need-returns
 returns c =

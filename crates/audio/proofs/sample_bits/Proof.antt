@@ -1,11 +1,11 @@
--- `packet::sample_bits`: widened, masked and cut, a sample keeps its sixteen bits.
+-- `audio::sample_bits`: widened, masked and cut, a sample keeps its sixteen bits.
 use native.Mathlib.Omega.{arith}
 use mir.Syntax.{w32}
 use mir.Val.{ofZ}
 use mir.Facts.{toZ-ofZ}
-use Rattle.packet.proofs.Samples.{masked, masked-twos}
-use Rattle.packet.proofs.sample_bits.Statement.{statement}
-use Rattle.packet.proofs.sample_bits.Tie as tie
+use Rattle.audio.proofs.Samples.{masked, masked-twos}
+use Rattle.audio.proofs.sample_bits.Statement.{statement}
+use Rattle.audio.proofs.sample_bits.Tie as tie
 
 cast-result : tie.Need-cast-result
 cast-result c = rw (toZ-ofZ (c .fits .x)) (omega (arith, c .fits .x .sfits))

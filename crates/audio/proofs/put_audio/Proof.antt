@@ -1,13 +1,15 @@
--- `packet::put_audio`: the header and four blocks joined are the packet.
+-- `audio::put_audio`: the header and four blocks joined are the packet.
 use mathlib.Core.Path.{refl, _∙_}
 use mathlib.Core.List.{[], _∷_}
 use Prim.Native.Nat.{_-_, _^_}
 use denote.Ref.{now}
 use borrow.Author.Needs.{needs}
+use borrow.Author.Tests.{eq-eqb}
+use lib.ListN.{length}
 use Rattle.hdmi.specs.Audio.{frames, frameBytes, blockStart}
-use Rattle.packet.proofs.Laying.{joined-packet}
-use Rattle.packet.proofs.put_audio.Statement.{statement}
-use Rattle.packet.proofs.put_audio.Tie as tie
+use Rattle.blocks.proofs.Laying.{joined-packet}
+use Rattle.audio.proofs.put_audio.Statement.{statement}
+use Rattle.audio.proofs.put_audio.Tie as tie
 
 cast-n : tie.Need-cast-n
 cast-n c = search needs
@@ -47,10 +49,12 @@ returns c =
     let b2 = b3 .before in
     let b1 = b2 .before in
     let b0 = b1 .before in
-    let a = b0 .before .before .args in
-    let n = frames (now (a .samples)) in (
+    let start = b0 .before .before in
+    let a = start .args in
+    let n = frames (now (a .samples)) in
+    let joined = rw (eq-eqb (length (now (a .packet))) 36 (start .pre .0)) at (k .join .ensures .1) in (
       refl,
-      k .join .ensures
+      joined
           ∙ joined-packet (2 ∷ (2 ^ n - 1) ∷ blockStart n (a .count) ∷ []) (frameBytes (now (a .samples))) (h .audio-header .ensures)
           (b0 .frame-block .ensures) (b1 .frame-block2 .ensures) (b2 .frame-block3 .ensures) (b3 .frame-block4 .ensures),
     )

@@ -1,14 +1,14 @@
--- `packet::join`: five blocks laid end to end.
+-- `blocks::put`: five blocks laid end to end.
 use mathlib.Core.Path.{ap, _∙_}
 use native.Mathlib.Omega.{arith}
 use denote.Ref.{now}
 use borrow.Author.Needs.{needs}
-use Rattle.packet.proofs.Laying.{laid, laid-joined}
-use Rattle.packet.proofs.join.Statement.{statement}
-use Rattle.packet.proofs.join.Tie as tie
-use Rattle.packet.proofs.join.Reads as reads
-use Rattle.packet.proofs.join.Lts as lts
-use Rattle.packet.proofs.lay.Reads as lay-reads
+use Rattle.blocks.proofs.Laying.{laid, laid-joined}
+use Rattle.blocks.proofs.put.Statement.{statement}
+use Rattle.blocks.proofs.put.Tie as tie
+use Rattle.blocks.proofs.put.Reads as reads
+use Rattle.blocks.proofs.put.Lts as lts
+use Rattle.blocks.proofs.lay.Reads as lay-reads
 
 slice-aggregate-lay : tie.Need-slice-aggregate-lay
 slice-aggregate-lay c = search needs
@@ -60,8 +60,8 @@ returns c =
     ∙ laid-joined (now (a .packet)) (a .t2) (a .t3) (a .t4) (a .t5) (a .t6) (start .pre)
     (omega (arith, start)) (omega (arith, start)) (omega (arith, start)) (omega (arith, start)) (omega (arith, start))
 
-pub join-spec : {M : Type 1} → statement M
-join-spec =
+pub put-spec : {M : Type 1} → statement M
+put-spec =
     tie.close
     (tie.spec
     slice-aggregate-lay

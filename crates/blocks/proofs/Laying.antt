@@ -2,10 +2,10 @@
 use mathlib.Core.Path.{_≡_, refl, sym, ap}
 use mathlib.Core.List.{List, [], _∷_, _++_}
 use Prim.Native.Nat.{ℕ}
-use lib.ListN.{length}
+use lib.ListN.{length, replicate}
 use lib.Seq.{paste}
 use Rattle.laws.proofs.Spines.{spine, on-spine}
-use Rattle.hdmi.specs.Parity.{parity, withParity}
+use Rattle.hdmi.specs.Parity.{parity, sent, withParity}
 use Rattle.hdmi.specs.Packet.{packetOf}
 
 -- a block laid from a place on
@@ -33,3 +33,8 @@ pub joined-packet : (h : List ℕ) (f : ℕ → List ℕ) {e a b c d : List ℕ}
     → a ≡ withParity (f 0) → b ≡ withParity (f 1) → c ≡ withParity (f 2) → d ≡ withParity (f 3) → e ++ (a ++ (b ++ (c ++ d))) ≡ packetOf h f
 unfolding packetOf
 joined-packet h f ee ea eb ec ed = rw (ee, ea, eb, ec, ed)
+
+-- zeros have the parity byte 0
+pub zero-block : replicate 8 0 ≡ withParity (replicate 7 0)
+unfolding withParity parity sent
+zero-block = refl

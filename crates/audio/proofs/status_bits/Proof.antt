@@ -1,9 +1,9 @@
--- `packet::status_bits`: sixteen bits have at most sixteen ones.
+-- `audio::status_bits`: sixteen bits have at most sixteen ones.
 use native.Mathlib.Omega.{arith}
 use borrow.Author.Needs.{needs}
 use lib.Count.{ones-le}
-use Rattle.packet.proofs.status_bits.Statement.{statement}
-use Rattle.packet.proofs.status_bits.Tie as tie
+use Rattle.audio.proofs.status_bits.Statement.{statement}
+use Rattle.audio.proofs.status_bits.Tie as tie
 
 add-result : tie.Need-add-result
 add-result c = omega (arith, ones-le 16 (c .args .x) (search needs))

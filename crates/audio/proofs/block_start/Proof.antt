@@ -1,10 +1,10 @@
--- `packet::block_start`: by the test that led to each answer.
+-- `audio::block_start`: by the test that led to each answer.
 use mathlib.Core.Path.{refl}
 use borrow.Author.Needs.{needs}
 use borrow.Author.Tests.{lt-ltb, le-ltb}
-use Rattle.packet.proofs.Samples.{start-shift}
-use Rattle.packet.proofs.block_start.Statement.{statement}
-use Rattle.packet.proofs.block_start.Tie as tie
+use Rattle.audio.proofs.Samples.{start-shift}
+use Rattle.audio.proofs.block_start.Statement.{statement}
+use Rattle.audio.proofs.block_start.Tie as tie
 
 cast-result : tie.Need-cast-result
 cast-result c = search needs

@@ -1,4 +1,4 @@
--- `packet::lay`: of the bytes, the first j stand at their place.
+-- `blocks::lay`: of the bytes, the first j stand at their place.
 use mathlib.Core.Path.{_≡_, sym, ap, _∙_}
 use mathlib.Core.List.{List}
 use Prim.Native.Nat.{ℕ, _+_, _-_, _≤_}
@@ -8,8 +8,8 @@ use denote.Ref.{now}
 use borrow.Author.Needs.{needs}
 use lib.ListN.{length, getD, set, length-set}
 use lib.Seq.{paste, paste-zero, paste-suc}
-use Rattle.packet.proofs.lay.Statement.{statement}
-use Rattle.packet.proofs.lay.Tie as tie
+use Rattle.blocks.proofs.lay.Statement.{statement}
+use Rattle.blocks.proofs.lay.Tie as tie
 
 abbrev Inv-loop : tie.InvT-loop
 Inv-loop packet₀ at bytes j₀ packet j = (j ≤ length bytes) × (length packet ≡ length packet₀) × (packet ≡ paste packet₀ at bytes j)
