@@ -1,5 +1,5 @@
 -- What stands in an island's words: the sync pair of word 0, the numbers on the lanes, and the packet's bytes.
-use mathlib.Core.Bool.{cond}
+use mathlib.Core.Bool.{Bool, cond, _||_}
 use mathlib.Core.List.{List}
 use Prim.Native.Nat.{ℕ, _+_, _-_, _*_, _/_, _%_}
 use lib.Dec.{eqb, ltb}
@@ -19,6 +19,10 @@ pairOf w = first (λ hv. eqb w (guardWord hv)) 0 4
 -- the number on lane t of a word, and 16 where the lane isn't TERC4
 abbrev pub numberOn : ℕ → ℕ → ℕ
 numberOn t w = terc4Number (lane t w)
+
+-- a lane of the word isn't TERC4
+abbrev pub unread : ℕ → Bool
+unread w = eqb (numberOn 0 w) 16 || (eqb (numberOn 1 w) 16 || eqb (numberOn 2 w) 16)
 
 -- bit k of the header, and bit n of subpacket s
 unfoldable pub headerFound : List ℕ → ℕ → ℕ

@@ -1,5 +1,5 @@
 -- What the reader asks of its arguments, and what it answers. Where a question is about many places, it fails at the lowest.
-use mathlib.Core.Bool.{Bool, not, _&&_, _||_}
+use mathlib.Core.Bool.{Bool, not, _&&_}
 use mathlib.Core.List.{List, [], _∷_, _++_}
 use Prim.Native.Nat.{ℕ, zero, suc, _+_, _-_, _*_, _/_, _%_, _^_}
 use lib.Dec.{eqb, ltb}
@@ -13,7 +13,7 @@ use Rattle.hdmi.specs.Packet.{header, subpacket}
 use Rattle.hdmi.specs.Island.{guardWord, marker}
 use Rattle.island_reader.specs.declared.IslandRead.{IslandRead}
 use Rattle.island_reader.specs.declared.IslandRead.the-variants.{SyncPair, Refused}
-use Rattle.island_reader.specs.Found.{pairOf, numberOn, packetFound}
+use Rattle.island_reader.specs.Found.{pairOf, numberOn, unread, packetFound}
 
 -- f holds at none of the n numbers from i on; else the refusal at the lowest where it does
 unfoldable pub nowhere : (ℕ → Bool) → ℕ → ℕ → (ℕ → Refusal) → Ask
@@ -36,7 +36,7 @@ guardWrong hv ws j = not (ltb hv 4 && eqb (getD ws (guardPlace j) 0) (guardWord 
 
 -- 14: a lane isn't TERC4
 abbrev pub laneWrong : List ℕ → ℕ → Bool
-laneWrong ws i = eqb (numberOn 0 (getD ws i 0)) 16 || (eqb (numberOn 1 (getD ws i 0)) 16 || eqb (numberOn 2 (getD ws i 0)) 16)
+laneWrong ws i = unread (getD ws i 0)
 
 -- 15: word 0 has a pair, and lane 0's low two bits aren't that pair or its high bit isn't the marker
 abbrev pub syncWrong : ℕ → List ℕ → ℕ → Bool
