@@ -9,5 +9,6 @@ pub mod Fronts
 pub mod Bits
 pub mod Xor
 pub mod Searching
+pub mod Stores
 pub mod Swaps
 pub mod Spines
