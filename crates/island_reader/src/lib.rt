@@ -277,8 +277,8 @@ fn copy(from: &[u8], to: &mut [u8])
 }
 
 // All that is asked of 36 words; and where nothing is refused, the packet.
-fn check(words: &[u32], bytes: &mut [u8; 36]) -> Verdict
-    requires { ⌜ length (now words) ≡ 36 ⌝ }
+fn check(words: &[u32], bytes: &mut [u8]) -> Verdict
+    requires { ⌜ (length (now words) ≡ 36) × (length (now bytes) ≡ 36) ⌝ }
     ensures answer { λ r. ⌜ r ≡ verdict (wordAsks (now (words .entry)) ++ parityAsks (packetFound (now (words .entry)))) ⌝ }
     ensures read { λ r. ⌜ (r ≡ Fine → now (bytes .exit) ≡ packetFound (now (words .entry))) ⌝ }
 {
@@ -290,7 +290,8 @@ fn check(words: &[u32], bytes: &mut [u8; 36]) -> Verdict
         return judged;
     };
     unpack(&found, bytes);
-    let mut sealed = *bytes;
+    let mut sealed = [0u8; 36];
+    copy(bytes, &mut sealed);
     parity::seal(&mut sealed);
     blocks(bytes, &sealed)
 }

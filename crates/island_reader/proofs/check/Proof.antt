@@ -44,7 +44,7 @@ enum-told-2 c = search needs
 
 returns : tie.Need-returns
 returns c =
-    let ws : List ℕ = c .before .before .before .before .before .before .before .before .before .before .args .words .now in
+    let ws : List ℕ = c .before .before .before .before .before .before .before .before .before .before .before .args .words .now in
     let r = c .enum-told2 .given .1 in
     let v = c .before .before .before .judge .ensures .0 in (
       r ∙ sym (joined (wordAsks ws) (parityAsks (packetFound ws)) ∙ stops (verdict (parityAsks (packetFound ws))) (sym v ∙ r)),
@@ -57,6 +57,12 @@ slice-aggregate-unpack c = search needs
 unpack-requires : tie.Need-unpack-requires
 unpack-requires c κs = search needs
 
+slice-aggregate-copy : tie.Need-slice-aggregate-copy
+slice-aggregate-copy c = search needs
+
+copy-requires : tie.Need-copy-requires
+copy-requires c κs = search needs
+
 slice-aggregate-seal : tie.Need-slice-aggregate-seal
 slice-aggregate-seal c = search needs
 
@@ -68,19 +74,26 @@ slice-aggregate-blocks c = search needs
 
 blocks-requires : tie.Need-blocks-requires
 blocks-requires c κs =
-    let p : List ℕ = c .before .before .before .before .before .before .before .unpack .last .1 .0 in
-    let l : length p ≡ 36 = ap length (c .before .before .before .before .before .before .before .unpack .ensures) ∙ length-packet _ in
-    let e : c .before .before .before .before .seal .last .0 ≡ sealed p = c .before .before .before .before .seal .ensures .1 ∙ ap (λ (t : Bool). kept (unless t Length Fine) (sealed p) p) (eq-eqb (length p) 36 l) in
+    let p : List ℕ = c .before .before .before .before .before .before .before .before .before .before .before .unpack .last .1 .0 in
+    let q : List ℕ = c .before .before .before .before .before .before .copy .last .1 .0 in
+    let l : length p ≡ 36 = ap length (c .before .before .before .before .before .before .before .before .before .before .before .unpack .ensures) ∙ length-packet _ in
+    let d : q ≡ p = c .before .before .before .before .before .before .copy .ensures in
+    let m : length q ≡ 36 = ap length d ∙ l in
+    let e : c .before .before .before .seal .last .0 ≡ sealed p =
+    c .before .before .before .seal .ensures .1 ∙ ap (λ (t : Bool). kept (unless t Length Fine) (sealed q) q) (eq-eqb (length q) 36 m) ∙ ap sealed d in
     (l, ap length e ∙ sealed-right p l .size, e)
+
+same-length : tie.Need-same-length
+same-length c = search needs
 
 returns-2 : tie.Need-returns-2
 returns-2 c =
-    let ws : List ℕ = c .before .before .before .before .before .before .before .before .before .before .before .before .before .before .before .before .before .before .before .before .before .args .words .now in
-    let judge = c .before .before .before .before .before .before .before .before .before .before .before .before .before .before .judge in
-    let fine = c .before .before .before .before .before .before .before .before .before .before .before .enum-told .given .1 in
+    let ws : List ℕ = c .before .before .before .before .before .before .before .before .before .before .before .before .before .before .before .before .before .before .before .before .before .before .before .before .before .before .args .words .now in
+    let judge = c .before .before .before .before .before .before .before .before .before .before .before .before .before .before .before .before .before .before .judge in
+    let fine = c .before .before .before .before .before .before .before .before .before .before .before .before .before .before .before .enum-told .given .1 in
     let v = sym (judge .ensures .0) ∙ fine in
     let clean = lanes-right ws (words-passed ws v .2) in
-    let p = c .before .before .before .before .before .before .before .before .unpack .ensures ∙ ap packetIn (judge .ensures .1 fine) ∙ packet-agrees ws clean in (
+    let p = c .before .before .before .before .before .before .before .before .before .before .before .before .unpack .ensures ∙ ap packetIn (judge .ensures .1 fine) ∙ packet-agrees ws clean in (
       c .blocks2 .ensures ∙ ap (λ (q : List ℕ). verdict (parityAsks q)) p ∙ sym (joined (wordAsks ws) (parityAsks (packetFound ws)) ∙ goes-on v),
       λ f. p,
     )
@@ -99,8 +112,11 @@ check-spec =
     returns
     slice-aggregate-unpack
     unpack-requires
+    slice-aggregate-copy
+    copy-requires
     slice-aggregate-seal
     seal-requires
     slice-aggregate-blocks
     blocks-requires
+    same-length
     returns-2)
