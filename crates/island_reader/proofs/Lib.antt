@@ -4,5 +4,6 @@ pub mod Nibbles
 pub mod Nowhere
 pub mod Regroup
 pub mod Sealing
+pub mod Sound
 pub mod SyncPairs
 pub mod Unpacking

@@ -1,3 +1,4 @@
+pub mod Exact
 pub mod Found
 pub mod Numbers
 pub mod Read
