@@ -2,19 +2,18 @@
 use refusal::Refusal;
 use refusal::Verdict;
 use timing::DviTiming;
-ghost use mathlib.Core.Bool.{Bool, true, false};
+ghost use mathlib.Core.Bool.{false};
 ghost use mathlib.Core.Path.{_≡_};
 ghost use Prim.Native.Nat.{_<_};
-ghost use lib.Dec.{eqb};
 ghost use lib.ListN.{length, replicate};
 ghost use Rattle.hdmi.specs.Island.{island};
 ghost use Rattle.hdmi.specs.Period.{videoPreamble, dataPreamble};
 ghost use Rattle.refusal.specs.declared.Verdict.the-variants.{Fine};
 ghost use Rattle.refusal.specs.Verdict.{verdict, kept};
-ghost use Rattle.timing.specs.Sync.{pairFor, syncFor};
+ghost use Rattle.timing.specs.Sync.{levelOf, positive, pairFor, syncFor};
 ghost use Rattle.timing.specs.Timing.{timingAsks};
 ghost use Rattle.line.specs.Asks.{longAs, knownState, lineAsks, islandAsks};
-ghost use Rattle.line.specs.Line.{pulseWords, onlyWords, vSync, lead, initLine, encodeLine};
+ghost use Rattle.line.specs.Line.{pulseWords, onlyWords, lead, initLine, encodeLine};
 ghost use Rattle.line.specs.Words.{framed};
 
 pub const SYNC_LINE_WORDS: usize = 15;
@@ -78,14 +77,15 @@ fn island_ready(t: DviTiming, have: usize, bytes: usize, state: u8) -> Verdict
     t.checked()
 }
 
+// The levels of the two sync lines while their sync is on or off.
 fn h_level(t: DviTiming, h_sync: bool) -> bool
-    ensures { λ r. ⌜ r ≡ Rattle.timing.specs.Sync.levelOf (Rattle.timing.specs.Sync.positive (t .«h_sync_polarity»)) «h_sync» ⌝ }
+    ensures { λ r. ⌜ r ≡ levelOf (positive (t .«h_sync_polarity»)) «h_sync» ⌝ }
 {
     timing::sync_level(t.h_sync_polarity == 1, h_sync)
 }
 
 fn v_level(t: DviTiming, v_sync: bool) -> bool
-    ensures { λ r. ⌜ r ≡ Rattle.timing.specs.Sync.levelOf (Rattle.timing.specs.Sync.positive (t .«v_sync_polarity»)) «v_sync» ⌝ }
+    ensures { λ r. ⌜ r ≡ levelOf (positive (t .«v_sync_polarity»)) «v_sync» ⌝ }
 {
     timing::sync_level(t.v_sync_polarity == 1, v_sync)
 }
@@ -96,6 +96,7 @@ fn sync_pair(t: DviTiming, h_sync: bool, v_sync: bool) -> u8
     timing::control_pair(h_level(t, h_sync), v_level(t, v_sync))
 }
 
+// The control word, and the two preambles, which stand outside horizontal sync.
 fn sync_word(t: DviTiming, h_sync: bool, v_sync: bool) -> u32
     ensures { λ r. ⌜ r ≡ syncFor t «h_sync» «v_sync» ⌝ }
 {
