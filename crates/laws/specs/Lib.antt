@@ -1,4 +1,5 @@
 pub mod Bit
+pub mod Bytes
 pub mod Count
 pub mod Digits
 pub mod Front

@@ -9,13 +9,14 @@ use borrow.Author.Tests.{le-ltb, not-false}
 use lib.Dec.{T}
 use lib.ListN.{length, take, drop, getD, set, drop-of-length-le}
 use lib.Seq.{drop-cons, take-suc-set, take-all}
+use Rattle.laws.proofs.Tables.{made, made-at}
 use Rattle.laws.proofs.Truth.{true-T}
 use Rattle.laws.proofs.Searching.{before}
 use Rattle.dvi.specs.Decoder.{byteOf, isData}
 use Rattle.dvi.specs.Row.{rowBytes}
 use Rattle.dvi.proofs.Decoding.{byte-small, is-small}
 use Rattle.row.specs.Answer.{firstBad}
-use Rattle.row.specs.Lookup.{entryOf}
+use Rattle.row.specs.Lookup.{entryOf, Entries}
 
 module _ (s : ℕ) where
   -- more than ten bits are no data symbol
@@ -60,3 +61,7 @@ unpacked-all ss out i l e r =
     let p : drop i ss ≡ [] = drop-of-length-le ss l in
     let q : take i out ≡ out = take-all i out (omega arith) in
     simp (p, q, append-nil) at r
+
+-- the table is right, computed at all 1,024 places
+pub table : (t : List ℕ) → t ≡ made entryOf 0 1024 → Entries t
+table t e = record { entry = λ s l. rw e (made-at entryOf 1024 s l) }

@@ -7,9 +7,11 @@ use native.Mathlib.Numerals.{add-one}
 use native.Mathlib.Omega.{arith}
 use lib.IntN.{ℤ}
 use lib.ListN.{length, take, drop, getD, set, drop-of-length-le}
-use lib.Seq.{drop-cons, take-suc-set, take-all}
+use lib.Seq.{sets, drop-cons, take-suc-set, take-all}
+use Rattle.laws.specs.Bytes.{lowFirst, bytesOf}
+use Rattle.laws.proofs.Bytes.{stored, all-stored}
 use Rattle.dvi.specs.Row.{rowSymbols, rowEnd}
-use Rattle.row.specs.Shift.{unbiased, held, Field, Step, Rule, Along, Written}
+use Rattle.row.specs.Shift.{unbiased, held, Field, Step, Rule, Along, Written, Stored}
 
 -- shifting by x is shifting to x's field
 pub step-at : {shifts symbols : List ℕ} → Rule shifts symbols → (x byte : ℕ) → Field x → byte < 256
@@ -26,6 +28,15 @@ module _ (symbols bytes sent : List ℕ) (d : ℤ) (x y i : ℕ) (h : i < length
 
   pub next-along : Along d bytes sent x i → Along d bytes (sent ++ (getD symbols (y / 64 % 2 * 256 + getD bytes i 0) 0 ∷ [])) y (i + 1)
   next-along a = record { field = s .field; inside = omega arith; ends = turn-end ∙ a .ends; row = turn-row ∙ a .row }
+
+-- and the symbol stored as two bytes
+pub next-stored : (symbols bytes out : List ℕ) (d : ℤ) (x y i : ℕ) → i < length bytes → Step symbols (unbiased (held x)) (getD bytes i 0) y → 2 * (i + 1) ≤ length out
+    → Stored d bytes out x i → Stored d bytes (sets out (2 * i) (lowFirst 2 (getD symbols (y / 64 % 2 * 256 + getD bytes i 0) 0))) y (i + 1)
+next-stored symbols bytes out d x y i h s l w = record {
+  sent = w .sent ++ (getD symbols (y / 64 % 2 * 256 + getD bytes i 0) 0 ∷ []);
+  along = next-along symbols bytes (w .sent) d x y i h s (w .along);
+  stored = stored 2 out (w .sent) i (getD symbols (y / 64 % 2 * 256 + getD bytes i 0) 0) l (w .stored);
+}
 
 -- what is written so far, with one symbol more
 pub written-more : (out : List ℕ) (i v : ℕ) → i < length out → take (i + 1) (set out i v) ≡ take i out ++ (v ∷ [])
@@ -50,3 +61,14 @@ pub all-written : {d : ℤ} {bytes out : List ℕ} {x : ℕ} → length out ≡ 
 all-written {bytes} {out} e w =
     let r = at-end (le-refl (length bytes)) (w .along) in
     (r .0, sym (take-all (length bytes) out (omega arith)) ∙ r .1)
+
+-- the same in bytes
+pub stored-start : (bytes out : List ℕ) (x : ℕ) → Field x → Stored (unbiased (held x)) bytes out x 0
+stored-start bytes out x f =
+    record { sent = []; along = record { field = f; inside = omega arith; ends = refl; row = refl }; stored = refl }
+
+pub stored-end : {d : ℤ} {bytes out : List ℕ} {x : ℕ} (i : ℕ) → length bytes ≤ i → length out ≡ 2 * length bytes → Stored d bytes out x i
+    → (unbiased (held x) ≡ rowEnd d bytes) × (out ≡ bytesOf 2 (rowSymbols d bytes))
+stored-end {bytes} {out} i l e w =
+    let r = at-end l (w .along) in
+    (r .0, all-stored 2 out (w .sent) i (omega arith) (w .stored) ∙ ap (bytesOf 2) (r .1))

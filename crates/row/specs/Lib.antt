@@ -1,3 +1,5 @@
 pub mod Answer
 pub mod Lookup
+pub mod Pieces
 pub mod Shift
+pub mod Wire

@@ -6,6 +6,7 @@ use mathlib.Core.Path.{_≡_}
 use Prim.Native.Nat.{ℕ, _+_, _*_, _/_, _%_, _<_, _≤_, _^_}
 use lib.IntN.{ℤ, pos, _-ℤ_}
 use lib.ListN.{length, take, drop, getD}
+use Rattle.laws.specs.Bytes.{bytesOf}
 use Rattle.dvi.specs.Row.{rowSymbols, rowEnd}
 use Rattle.dvi.specs.Symbol.{symbolOf, nextOf}
 
@@ -42,3 +43,9 @@ pub record Along (d : ℤ) (bytes sent : List ℕ) (x i : ℕ) : Type 0 where
 -- the same in a lent buffer: what is sent so far stands in its first i places
 pub record Written (d : ℤ) (bytes out : List ℕ) (x i : ℕ) : Type 0 where
   pub along : Along d bytes (take i out) x i
+
+-- the same in a buffer of bytes: two for each symbol, low byte first
+pub record Stored (d : ℤ) (bytes out : List ℕ) (x i : ℕ) : Type 0 where
+  pub sent : List ℕ
+  pub along : Along d bytes sent x i
+  pub stored : take (2 * i) out ≡ bytesOf 2 sent

@@ -11,12 +11,15 @@ ghost use Prim.Native.Nat.{_+_, _*_, _/_, _%_, _<_, _≤_, _^_};
 ghost use lib.Dec.{T};
 ghost use lib.IntN.{ℤ};
 ghost use lib.ListN.{length, getD};
+ghost use lib.Seq.{sets};
+ghost use Rattle.laws.specs.Bytes.{lowFirst, bytesOf};
 ghost use Rattle.dvi.specs.Symbol.{inRange};
 ghost use Rattle.dvi.specs.Row.{rowSymbols, rowEnd, rowBytes};
 ghost use Rattle.refusal.specs.Verdict.{verdict};
 ghost use Rattle.row.specs.Answer.{lengthsFit, encodeRowAsks, encodeRowOf, encodeRowOut, firstBad, readRowAsks, readRowOut};
 ghost use Rattle.row.specs.Lookup.{entryOf, Entries};
-ghost use Rattle.row.specs.Shift.{held, Field, Rule, Written, unbiased};
+ghost use Rattle.row.specs.Shift.{held, Field, Rule, Written, Stored, unbiased};
+ghost use Rattle.row.specs.Wire.{encodeBytesOf, encodeBytesOut, symbolsIn, readBytesAsks, readBytesOut};
 
 // The byte's word, moved to the field of the discrepancy that x holds.
 fn moved(shifts: &[u64; 256], x: u64, byte: u8) -> u64
@@ -215,5 +218,133 @@ pub fn read_row(symbols: &[u16], out: &mut [u8]) -> Verdict
         return Verdict::Refused(Refusal::NotData(bad));
     }
     unpack(&BYTES, symbols, out);
+    Verdict::Fine
+}
+
+// ---- the same rows in bytes alone, a symbol as two, low byte first: stored as they come, with no second buffer
+fn put(out: &mut [u8], at: usize, symbol: u16)
+    requires { ⌜ at + 1 < length (now out) ⌝ }
+    ensures { λ _. ⌜ now (out .exit) ≡ sets (now (out .entry)) at (lowFirst 2 symbol) ⌝ }
+{
+    out[at] = (symbol % 256) as u8;
+    out[at + 1] = (symbol / 256 % 256) as u8;
+}
+
+// One byte of the row, at index i.
+fn one_stored(
+    shifts: &[u64; 256],
+    symbols: &[u16; 512],
+    bytes: &[u8],
+    x: u64,
+    i: usize,
+    out: &mut [u8],
+) -> u64
+    requires { ⌜ Rule (now shifts) (now symbols) × Field x × (i < length (now bytes)) × (length (now out) ≡ 2 * length (now bytes)) ⌝ }
+    ensures { λ r. ⌜ Field r × (length (now (out .exit)) ≡ length (now (out .entry))) ⌝ }
+    ensures { λ r. ⌜ ((d : ℤ) → Stored d (now (bytes .entry)) (now (out .entry)) x i → Stored d (now (bytes .entry)) (now (out .exit)) r (i + 1)) ⌝ }
+{
+    let byte = bytes[i];
+    let y = moved(shifts, x, byte);
+    put(out, 2 * i, picked(symbols, y, byte));
+    y
+}
+
+// The whole row.
+fn fill_stored(
+    shifts: &[u64; 256],
+    symbols: &[u16; 512],
+    bytes: &[u8],
+    start: u64,
+    out: &mut [u8],
+) -> u64
+    requires { ⌜ Rule (now shifts) (now symbols) × Field start × (length (now out) ≡ 2 * length (now bytes)) ⌝ }
+    ensures { λ r. ⌜ Field r × (unbiased (held r) ≡ rowEnd (unbiased (held start)) (now (bytes .entry))) ⌝ }
+    ensures { λ _. ⌜ now (out .exit) ≡ bytesOf 2 (rowSymbols (unbiased (held start)) (now (bytes .entry))) ⌝ }
+{
+    let mut i = 0;
+    let mut x = start;
+    while i < bytes.len() {
+        x = one_stored(shifts, symbols, bytes, x, i, out);
+        i += 1;
+    }
+    x
+}
+
+// The symbols of a row of bytes, or of a piece of one, two bytes each.
+pub fn encode_row_bytes(discrepancy: i32, bytes: &[u8], out: &mut [u8]) -> RowEncoded
+    ensures answer { λ r. ⌜ r ≡ encodeBytesOf discrepancy (now (bytes .entry)) (length (now (out .entry))) ⌝ }
+    ensures symbols { λ _. ⌜ now (out .exit) ≡ encodeBytesOut discrepancy (now (bytes .entry)) (now (out .entry)) ⌝ }
+{
+    if out.len() % 2 != 0 {
+        return RowEncoded::Refused(Refusal::Length, discrepancy);
+    }
+    let v = encode_verdict(discrepancy, bytes.len(), out.len() / 2);
+    match v {
+        Verdict::Refused(r) => RowEncoded::Refused(r, discrepancy),
+        Verdict::Fine => {
+            let x = fill_stored(&SHIFTS, &SYMBOLS, bytes, begun(discrepancy), out);
+            RowEncoded::Done(ended(x))
+        }
+    }
+}
+
+fn word(low: u8, high: u8) -> u16
+    ensures { λ r. ⌜ r ≡ low + 256 * high ⌝ }
+{
+    (low as u16) + 256 * (high as u16)
+}
+
+// Symbol i of a buffer of bytes.
+fn symbol_at(lent: &[u8], i: usize) -> u16
+    requires { ⌜ i < length (now lent) / 2 ⌝ }
+    ensures { λ r. ⌜ r ≡ getD (symbolsIn (now (lent .entry))) i 0 ⌝ }
+{
+    word(lent[2 * i], lent[2 * i + 1])
+}
+
+// The index of the first symbol that is no data symbol, or their number where there is none.
+fn scan_stored(bytes: &[u16; 1024], lent: &[u8]) -> usize
+    requires { ⌜ Entries (now bytes) ⌝ }
+    ensures { λ r. ⌜ r ≡ firstBad (symbolsIn (now (lent .entry))) ⌝ }
+{
+    let n = lent.len() / 2;
+    let mut i = 0;
+    while i < n {
+        if looked_up(bytes, symbol_at(lent, i)) > 255 {
+            return i;
+        }
+        i += 1;
+    }
+    i
+}
+
+// The bytes of a row that was scanned.
+fn unpack_stored(bytes: &[u16; 1024], lent: &[u8], out: &mut [u8])
+    requires { ⌜ Entries (now bytes) × (length (now out) ≡ length (now lent) / 2) × (firstBad (symbolsIn (now lent)) ≡ length (now lent) / 2) ⌝ }
+    ensures { λ _. ⌜ now (out .exit) ≡ rowBytes (symbolsIn (now (lent .entry))) ⌝ }
+{
+    let mut i = 0;
+    while i < out.len() {
+        out[i] = (looked_up(bytes, symbol_at(lent, i)) % 256) as u8;
+        i += 1;
+    }
+}
+
+// The bytes of a row of symbols of two bytes each. Nothing is written before every symbol was looked at.
+pub fn read_row_bytes(lent: &[u8], out: &mut [u8]) -> Verdict
+    ensures answer { λ r. ⌜ r ≡ verdict (readBytesAsks (now (lent .entry)) (length (now (out .entry)))) ⌝ }
+    ensures bytes { λ _. ⌜ now (out .exit) ≡ readBytesOut (now (lent .entry)) (now (out .entry)) ⌝ }
+{
+    if lent.len() % 2 != 0 {
+        return Verdict::Refused(Refusal::Length);
+    }
+    if !lengths_fit(lent.len() / 2, out.len()) {
+        return Verdict::Refused(Refusal::Length);
+    }
+    let bad = scan_stored(&BYTES, lent);
+    if bad != lent.len() / 2 {
+        return Verdict::Refused(Refusal::NotData(bad));
+    }
+    unpack_stored(&BYTES, lent, out);
     Verdict::Fine
 }

@@ -3,22 +3,20 @@ use mathlib.Core.Path.{_≡_, refl, sym, ap, _∙_}
 use mathlib.Core.List.{List, []}
 use Prim.Native.Nat.{ℕ, _<_}
 use borrow.Author.Needs.{needs, sfits-of}
-use lib.Dec.{T, leb, eqb, eqb→eq}
+use lib.Dec.{T}
 use lib.IntN.{ℤ}
 use lib.ListN.{length}
 use mir.Syntax.{w32}
 use mir.Val.{toZ, ofZ}
 use mir.Facts.{toZ-ofZ}
-use Rattle.laws.proofs.Truth.{and-right}
 use Rattle.dvi.specs.Row.{rowSymbols, rowEnd}
 use Rattle.dvi.specs.Symbol.{inRange, symbolOf, nextOf}
-use Rattle.refusal.specs.declared.Refusal.the-variants.{Length, Discrepancy}
 use Rattle.refusal.specs.declared.Verdict.the-variants.{Fine}
-use Rattle.refusal.specs.Verdict.{verdict, unless}
-use Rattle.refusal.proofs.Verdicts.{holds-first, fine-rest}
+use Rattle.refusal.specs.Verdict.{verdict}
 use Rattle.row.specs.declared.RowEncoded.the-variants.{Done}
-use Rattle.row.specs.Answer.{lengthsFit, encodeRowAsks}
+use Rattle.row.specs.Answer.{encodeRowAsks}
 use Rattle.row.specs.Shift.{unbiased, held}
+use Rattle.row.proofs.Asked.{same-lengths, ranged}
 use Rattle.row.proofs.Rules.{rule}
 use Rattle.row.proofs.encode_row.Statement.{statement}
 use Rattle.row.proofs.encode_row.Tie as tie
@@ -31,15 +29,6 @@ enum-known-v c = search needs
 
 enum-told : tie.Need-enum-told
 enum-told c = search needs
-
--- nothing was refused: the lengths fit, and the discrepancy is in range
-module _ (d : ℤ) (row room : ℕ) (fine : verdict (encodeRowAsks d row room) ≡ Fine) where
-  same-lengths : room ≡ row
-  same-lengths =
-      eqb→eq room row (and-right (leb row 4096) (eqb room row) (holds-first (lengthsFit row room) Length (unless (inRange d) Discrepancy Fine) fine))
-
-  ranged : T (inRange d)
-  ranged = holds-first (inRange d) Discrepancy Fine (fine-rest (lengthsFit row room) Length (unless (inRange d) Discrepancy Fine) fine)
 
 -- the verdict, at the discrepancy as it was before it became 32 bits
 judged : (c : tie.After-encode-verdict) → verdict (encodeRowAsks (c .before .before .before .args .discrepancy) (length (c .before .before .before .args .bytes .now)) (length (c .before .before .before .args .out .now))) ≡ c .encode-verdict .result

@@ -1,16 +1,13 @@
 -- `read_row` writes the bytes of a row of data symbols, or nothing.
 use mathlib.Core.Path.{_≡_, refl, sym, _∙_}
-use mathlib.Core.List.{List}
-use Prim.Native.Nat.{ℕ}
 use borrow.Author.Needs.{needs}
 use borrow.Author.Tests.{eq-eqb, ne-eqb, not-true, not-false}
 use lib.Dec.{leb, eqb→eq}
 use lib.ListN.{length}
-use Rattle.laws.proofs.Tables.{made, made-at}
 use Rattle.laws.proofs.Truth.{true-T, and-right}
 use Rattle.dvi.specs.Decoder.{byteOf, isData}
 use Rattle.dvi.specs.Symbol.{symbolOf}
-use Rattle.row.specs.Lookup.{entryOf, Entries}
+use Rattle.row.proofs.Lookups.{table}
 use Rattle.row.proofs.read_row.Statement.{statement}
 use Rattle.row.proofs.read_row.Tie as tie
 
@@ -19,10 +16,6 @@ lengths-fit-requires c κs = search needs
 
 returns : tie.Need-returns
 returns c = rw (sym (c .before .lengths-fit .ensures) ∙ not-true _ (c .if1 .taken)) (refl, refl)
-
--- the table is right, computed at all 1,024 places
-table : (t : List ℕ) → t ≡ made entryOf 0 1024 → Entries t
-table t e = record { entry = λ s l. rw e (made-at entryOf 1024 s l) }
 
 scan-requires : tie.Need-scan-requires
 unfolding symbolOf byteOf isData
