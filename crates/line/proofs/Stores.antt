@@ -2,13 +2,16 @@
 use mathlib.Core.Path.{_≡_, refl}
 use mathlib.Core.Bool.{Bool, true, false, not, cond}
 use mathlib.Core.List.{List, [], _∷_, _++_}
-use Prim.Native.Nat.{ℕ, _-_, _<_}
+use Prim.Native.Nat.{ℕ, zero, suc, _-_, _<_}
+use native.Mathlib.Omega.{arith}
 use lib.Dec.{eqb}
 use lib.ListN.{length, set, replicate}
 use borrow.Author.Tests.{eq-eqb, lt-ltb}
 use borrow.Rule.Slice.PartMut.{putMid}
+use Rattle.laws.specs.Bit.{bit}
 use Rattle.laws.proofs.Spines.{spine, on-spine}
-use Rattle.hdmi.specs.Island.{island}
+use Rattle.hdmi.specs.Island.{guardWord, headerBit, subpacketBit, dataWord, islandWord, island}
+use Rattle.hdmi.specs.Terc4.{terc4}
 use Rattle.hdmi.specs.Period.{videoPreamble, dataPreamble, videoGuard}
 use Rattle.hdmi.proofs.Island.{length-island}
 use Rattle.island.specs.Encode.{encodeAsks}
@@ -18,6 +21,7 @@ use Rattle.timing.specs.declared.DviTiming.{DviTiming}
 use Rattle.timing.specs.Command.{Send, raw, repeat, commanded, repeatWord}
 use Rattle.timing.specs.Sync.{pairFor, syncFor}
 use Rattle.line.specs.Line.{pulseWords, onlyWords, vSync, lead, islandWords, commandPlace, replaced, initLine, encodeLine}
+use Rattle.line.specs.Words.{framed}
 
 pub pulse-made : (t : DviTiming) (v : Bool)
     → set (set (set (set (set (replicate 15 (syncFor t false v)) 0 (repeatWord (t .«h_front_porch»))) 2 (repeatWord (t .«h_sync_width»))) 3 (syncFor t true v)) 4 (repeatWord (t .«h_back_porch» - 8))) 6 8
@@ -45,7 +49,7 @@ around t s e r =
     repeat (t .«h_front_porch» - 8) (syncFor t false (vSync s)) ∷ repeat 8 (dataPreamble (pairFor t false (vSync s))) ∷ raw e
     ∷ repeat (t .«h_sync_width» - 36) (syncFor t true (vSync s)) ∷ repeat (t .«h_back_porch» - 10) (syncFor t false (vSync s)) ∷ raw r ∷ []
 
--- the stores of `encode_data_island`
+-- the stores of `encode_data_island`: the island e, then the control words and the last ten, r
 abbrev encodeStored : DviTiming → ℕ → List ℕ → List ℕ → List ℕ → List ℕ
 encodeStored t s e r l =
     putMid 46 10
@@ -68,11 +72,29 @@ pub length-lead : (t : DviTiming) (s : ℕ) → length (lead t s) ≡ 10
 length-lead t s = lead-by (eqb s 3) (videoPreamble (pairFor t false (vSync s))) videoGuard (syncFor t false (vSync s))
 
 pub encode-made : (t : DviTiming) (s : ℕ) (p l : List ℕ) → length l ≡ 56
-    → encodeStored t s (island (pairFor t true (vSync s)) p) (lead t s) l ≡ encodeLine t s p l
-unfolding encodeLine islandWords
+    → framed t s (putMid 5 36 l (island (pairFor t true (vSync s)) p)) ≡ encodeLine t s p l
+unfolding encodeLine islandWords framed
 encode-made t s p l h =
     stored-around t s (island (pairFor t true (vSync s)) p) (lead t s) l (length-island (pairFor t true (vSync s)) p) (length-lead t s) h
 
 -- the island's writer has nothing to refuse here
 pub island-fine : (hv : ℕ) (p w : List ℕ) → hv < 4 → length p ≡ 36 → length w ≡ 36 → verdict (encodeAsks hv p w) ≡ Fine
 island-fine hv p w a b c = simp (eq-eqb (length p) 36 b, eq-eqb (length w) 36 c, lt-ltb hv 4 a)
+
+-- ---- an island of zeros
+
+-- two guard words, the first character, 31 that are alike, two guard words
+empty-by : (hv : ℕ) → hv < 4
+    → set (set (set (set (set (replicate 36 (dataWord hv (replicate 36 0) 1)) 0 (guardWord hv)) 1 (guardWord hv)) 2 (dataWord hv (replicate 36 0) 0)) 34 (guardWord hv)) 35 (guardWord hv)
+    ≡ island hv (replicate 36 0)
+unfolding island islandWord dataWord guardWord headerBit subpacketBit bit terc4
+empty-by zero h = refl
+empty-by (suc zero) h = refl
+empty-by (suc (suc zero)) h = refl
+empty-by (suc (suc (suc zero))) h = refl
+empty-by (suc (suc (suc (suc hv)))) h = absurd (omega arith)
+
+pub empty-made : (hv guard first later : ℕ) → hv < 4 → guard ≡ guardWord hv → first ≡ dataWord hv (replicate 36 0) 0
+    → later ≡ dataWord hv (replicate 36 0) 1
+    → set (set (set (set (set (replicate 36 later) 0 guard) 1 guard) 2 first) 34 guard) 35 guard ≡ island hv (replicate 36 0)
+empty-made hv guard first later h g f l = rw (g, f, l) (empty-by hv h)

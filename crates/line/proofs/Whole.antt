@@ -101,3 +101,12 @@ module _ (t : DviTiming) (s : ℕ) (p : List ℕ) (packet : length p ≡ 36) (ok
   pub encode-then-init : (l : List ℕ) → length l ≡ 56 → inited t (encoded t s p l) ≡ islandWords t s p
   encode-then-init l h =
       ap (inited t) (encoded-is l h) ∙ inited-is (encodeLine t s p l) (length-encode t s p l) ∙ encode-first t s p l
+
+-- ---- the empty form
+
+abbrev pub emptied : DviTiming → ℕ → List ℕ → List ℕ
+emptied t s l = kept (verdict (islandAsks t (length l) 36 s)) (encodeLine t s (replicate 36 0) l) l
+
+-- it leaves the line as the form with 36 zeros does, refused or not
+pub empty-is-zeros : (t : DviTiming) (s : ℕ) (l : List ℕ) → emptied t s l ≡ encoded t s (replicate 36 0) l
+empty-is-zeros t s l = refl

@@ -2,18 +2,19 @@
 use refusal::Refusal;
 use refusal::Verdict;
 use timing::DviTiming;
-ghost use mathlib.Core.Bool.{Bool, true, false};
+ghost use mathlib.Core.Bool.{false};
 ghost use mathlib.Core.Path.{_≡_};
 ghost use Prim.Native.Nat.{_<_};
-ghost use lib.Dec.{eqb};
 ghost use lib.ListN.{length, replicate};
+ghost use Rattle.hdmi.specs.Island.{island};
 ghost use Rattle.hdmi.specs.Period.{videoPreamble, dataPreamble};
 ghost use Rattle.refusal.specs.declared.Verdict.the-variants.{Fine};
 ghost use Rattle.refusal.specs.Verdict.{verdict, kept};
-ghost use Rattle.timing.specs.Sync.{pairFor, syncFor};
+ghost use Rattle.timing.specs.Sync.{levelOf, positive, pairFor, syncFor};
 ghost use Rattle.timing.specs.Timing.{timingAsks};
 ghost use Rattle.line.specs.Asks.{longAs, knownState, lineAsks, islandAsks};
-ghost use Rattle.line.specs.Line.{pulseWords, onlyWords, vSync, lead, initLine, encodeLine};
+ghost use Rattle.line.specs.Line.{pulseWords, onlyWords, lead, initLine, encodeLine};
+ghost use Rattle.line.specs.Words.{framed};
 
 pub const SYNC_LINE_WORDS: usize = 15;
 
@@ -76,14 +77,15 @@ fn island_ready(t: DviTiming, have: usize, bytes: usize, state: u8) -> Verdict
     t.checked()
 }
 
+// The levels of the two sync lines while their sync is on or off.
 fn h_level(t: DviTiming, h_sync: bool) -> bool
-    ensures { λ r. ⌜ r ≡ Rattle.timing.specs.Sync.levelOf (Rattle.timing.specs.Sync.positive (t .«h_sync_polarity»)) «h_sync» ⌝ }
+    ensures { λ r. ⌜ r ≡ levelOf (positive (t .«h_sync_polarity»)) «h_sync» ⌝ }
 {
     timing::sync_level(t.h_sync_polarity == 1, h_sync)
 }
 
 fn v_level(t: DviTiming, v_sync: bool) -> bool
-    ensures { λ r. ⌜ r ≡ Rattle.timing.specs.Sync.levelOf (Rattle.timing.specs.Sync.positive (t .«v_sync_polarity»)) «v_sync» ⌝ }
+    ensures { λ r. ⌜ r ≡ levelOf (positive (t .«v_sync_polarity»)) «v_sync» ⌝ }
 {
     timing::sync_level(t.v_sync_polarity == 1, v_sync)
 }
@@ -94,6 +96,7 @@ fn sync_pair(t: DviTiming, h_sync: bool, v_sync: bool) -> u8
     timing::control_pair(h_level(t, h_sync), v_level(t, v_sync))
 }
 
+// The control word, and the two preambles, which stand outside horizontal sync.
 fn sync_word(t: DviTiming, h_sync: bool, v_sync: bool) -> u32
     ensures { λ r. ⌜ r ≡ syncFor t «h_sync» «v_sync» ⌝ }
 {
@@ -169,23 +172,62 @@ fn lead_words(t: DviTiming, state: u8, line: &mut [u32])
     }
 }
 
-// Everything of an island line but its command words.
-fn encode_words(t: DviTiming, line: &mut [u32], state: u8, packet: &[u8]) -> Verdict
-    requires { ⌜ (length (now line) ≡ 56) × (length (now packet) ≡ 36) ⌝ }
-    ensures { λ r. ⌜ (r ≡ Fine) × (now (line .exit) ≡ encodeLine t state (now (packet .entry)) (now (line .entry))) ⌝ }
+// The control words of an island line.
+fn frame_words(t: DviTiming, state: u8, line: &mut [u32])
+    requires { ⌜ length (now line) ≡ 56 ⌝ }
+    ensures { λ _. ⌜ now (line .exit) ≡ framed t state (now (line .entry)) ⌝ }
 {
     let v_sync = state == 1;
-    let v = island::encode(sync_pair(t, true, v_sync), packet, &mut line[5..41]);
-    let Verdict::Fine = v else {
-        return v;
-    };
     let off = sync_word(t, false, v_sync);
     line[1] = off;
     line[3] = data_word(t, v_sync);
     line[42] = sync_word(t, true, v_sync);
     line[44] = off;
     lead_words(t, state, &mut line[46..56]);
+}
+
+// Everything of an island line but its command words.
+fn encode_words(t: DviTiming, line: &mut [u32], state: u8, packet: &[u8]) -> Verdict
+    requires { ⌜ (length (now line) ≡ 56) × (length (now packet) ≡ 36) ⌝ }
+    ensures { λ r. ⌜ (r ≡ Fine) × (now (line .exit) ≡ encodeLine t state (now (packet .entry)) (now (line .entry))) ⌝ }
+{
+    let v = island::encode(sync_pair(t, true, state == 1), packet, &mut line[5..41]);
+    let Verdict::Fine = v else {
+        return v;
+    };
+    frame_words(t, state, line);
     v
+}
+
+// An island of 36 zero bytes, by sync pair: its guard word, its first character, and each of the other 31.
+const EMPTY_GUARD: [u32; 4] = [0x1334ce8e, 0x1334ce71, 0x1334cd63, 0x1334cec3];
+
+const EMPTY_FIRST: [u32; 4] = [0x29ca729c, 0x29ca7263, 0x29ca72e4, 0x29ca72e2];
+
+const EMPTY_LATER: [u32; 4] = [0x29ca72cc, 0x29ca7139, 0x29ca719c, 0x29ca72c6];
+
+fn empty_island(hv: usize, words: &mut [u32])
+    requires { ⌜ (hv < 4) × (length (now words) ≡ 36) ⌝ }
+    ensures { λ _. ⌜ now (words .exit) ≡ island hv (replicate 36 0) ⌝ }
+{
+    let guard = EMPTY_GUARD[hv];
+    let first = EMPTY_FIRST[hv];
+    let later = EMPTY_LATER[hv];
+    fill(words, later);
+    words[0] = guard;
+    words[1] = guard;
+    words[2] = first;
+    words[34] = guard;
+    words[35] = guard;
+}
+
+// The same as `encode_words` does with zeros, without a packet to take apart.
+fn empty_words(t: DviTiming, line: &mut [u32], state: u8)
+    requires { ⌜ length (now line) ≡ 56 ⌝ }
+    ensures { λ _. ⌜ now (line .exit) ≡ encodeLine t state (replicate 36 0) (now (line .entry)) ⌝ }
+{
+    empty_island(sync_pair(t, true, state == 1) as usize, &mut line[5..41]);
+    frame_words(t, state, line);
 }
 
 // Blanking with a sync pulse, in 15 words.
@@ -244,6 +286,10 @@ pub fn encode_data_island_empty(timing: DviTiming, line: &mut [u32], state: u8) 
     ensures answer { λ r. ⌜ r ≡ verdict (islandAsks timing (length (now (line .entry))) 36 state) ⌝ }
     ensures words { λ _. ⌜ now (line .exit) ≡ kept (verdict (islandAsks timing (length (now (line .entry))) 36 state)) (encodeLine timing state (replicate 36 0) (now (line .entry))) (now (line .entry)) ⌝ }
 {
-    let zeros = [0u8; 36];
-    encode_data_island(timing, line, state, &zeros)
+    let v = island_ready(timing, line.len(), 36, state);
+    let Verdict::Fine = v else {
+        return v;
+    };
+    empty_words(timing, line, state);
+    v
 }

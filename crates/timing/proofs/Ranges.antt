@@ -3,6 +3,7 @@ use mathlib.Core.Path.{_≡_, refl}
 use mathlib.Core.Bool.{Bool, true, false, _&&_}
 use mathlib.Core.List.{[]}
 use Prim.Native.Nat.{ℕ, _+_, _≤_, _<_}
+use borrow.Author.Tests.{le-leb, lt-ltb}
 use lib.Dec.{T, leb, ltb, leb→le, ltb→lt}
 use Rattle.laws.proofs.Truth.{and-left, and-right, true-T, T-true}
 use Rattle.refusal.specs.declared.Refusal.the-variants.{Unlisted, TimingRange}
@@ -74,3 +75,23 @@ accepted t e =
       v-back = bounds 1 _ (last (((((hf && hs) && hb) && ha) && vf) && vs) vb r7);
       v-active = bounds 1 _ (last ((((((hf && hs) && hb) && ha) && vf) && vs) && vb) va r);
     }
+
+tests : {low x : ℕ} → Within low x → within low x ≡ true
+tests {low} {x} w = simp (le-leb low x (w .least), le-leb x 4095 (w .most))
+
+-- and a timing that has all this is not refused
+pub accepting : (t : DviTiming) → Accepted t → verdict (timingAsks t) ≡ Fine
+unfolding ranges
+accepting t a =
+    simp (
+      lt-ltb _ 2 (a .h-polarity),
+      lt-ltb _ 2 (a .v-polarity),
+      tests (a .h-front),
+      tests (a .h-sync),
+      tests (a .h-back),
+      tests (a .h-active),
+      tests (a .v-front),
+      tests (a .v-sync),
+      tests (a .v-back),
+      tests (a .v-active),
+    )
