@@ -1,43 +1,33 @@
+-- The number of a TERC4 symbol, carried over.
+use mathlib.Core.Path.{sym, ap, _∙_}
+use Rattle.chaffrail.specs.Crossing.{terc4Read}
 use borrow.Author.Needs.{needs}
 use Rattle.chaffrail.proofs.chaffrail_read_terc4.Statement.{statement}
 use Rattle.chaffrail.proofs.chaffrail_read_terc4.Tie as tie
-use Rattle.chaffrail.proofs.chaffrail_read_terc4.Reads as reads
-use Rattle.chaffrail.proofs.chaffrail_read_terc4.Lts as lts
-use Rattle.chaffrail.proofs.answer_given.Reads as answer-given-reads
-use Rattle.chaffrail.proofs.answer_refused.Reads as answer-refused-reads
-use Rattle.terc4.proofs.read.Reads as read-reads
 
--- src/lib.rt:179:9
 read-requires : tie.Need-read-requires
 read-requires c κs = search needs
 
--- src/lib.rt:181:29
 enum-known-a : tie.Need-enum-known-a
 enum-known-a c = search needs
 
--- src/lib.rt:181:48
 cast-answer-given : tie.Need-cast-answer-given
 cast-answer-given c = search needs
 
--- src/lib.rt:181:35
 answer-given-requires : tie.Need-answer-given-requires
 answer-given-requires c κs = search needs
 
--- src/lib.rt:182:30
 enum-known-a-2 : tie.Need-enum-known-a-2
 enum-known-a-2 c = search needs
 
--- src/lib.rt:182:36
 answer-refused-requires : tie.Need-answer-refused-requires
 answer-refused-requires c κs = search needs
 
--- src/lib.rt:175:1
 returns : tie.Need-returns
-returns c = ?
+returns c = c .answer-given .ensures ∙ ap terc4Read (sym (c .before .before .a .given .1) ∙ c .before .before .before .before .read .ensures)
 
--- src/lib.rt:175:1
 returns-2 : tie.Need-returns-2
-returns-2 c = ?
+returns-2 c = c .answer-refused .ensures ∙ ap terc4Read (sym (c .before .before .a2 .given .1) ∙ c .before .before .before .before .read .ensures)
 
 pub chaffrail-read-terc4-spec : {M : Type 1} → statement M
 chaffrail-read-terc4-spec =
