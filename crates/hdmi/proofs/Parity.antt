@@ -6,13 +6,16 @@ use native.Mathlib.Nat.{pow-suc}
 use native.Mathlib.Numerals.{add-one}
 use native.Mathlib.Omega.{arith}
 use lib.Arith.{lt-one}
-use lib.Bits.{bitXor, xor-comm, xor-zero-r, xor-self, xor-lt}
+use lib.Bits.{bitXor, xor-comm, xor-zero-r, xor-self, xor-lt, xor-shr, xor-mod}
 use lib.Dec.{T, eqb, eqb→eq}
 use lib.ListN.{length, replicate, getD, drop, take, length-append}
 use lib.Seq.{drop-cons, take-at, getD-append-seam}
 use borrow.Author.Tests.{eq-eqb}
+use Rattle.laws.specs.Bytes.{lowFirst}
+use Rattle.laws.proofs.Bytes.{length-low-first}
 use Rattle.laws.proofs.Truth.{true-T}
 use Rattle.laws.proofs.Finite.{bounded}
+use Rattle.laws.proofs.Linear.{Linear}
 use Rattle.laws.proofs.Xor.{on-bit, odd-lt, xor-half, xor-odd, xor-assoc, xor-swap}
 use Rattle.hdmi.specs.Parity.{step, register, bitsOf, sent, parity, withParity, right}
 
@@ -76,6 +79,22 @@ pub parity-zeros : (n : ℕ) → parity (replicate n 0) ≡ 0
 unfolding parity sent
 parity-zeros zero = refl
 parity-zeros (suc n) = parity-zeros n
+
+-- so it is of a number's bytes
+bytes-xor : (n a b : ℕ) → lowFirst n (bitXor a b) ≡ xors (lowFirst n a) (lowFirst n b)
+bytes-xor zero a b = refl
+bytes-xor (suc n) a b =
+    ap₂ (λ (x : ℕ) (l : List ℕ). x ∷ l) (xor-mod a b 8) (ap (lowFirst n) (xor-shr a b 8) ∙ bytes-xor n (a / 256) (b / 256))
+
+pub parity-linear : (n : ℕ) → Linear (λ w. parity (lowFirst n w))
+parity-linear n a b =
+    ap parity (bytes-xor n a b) ∙ parity-xor (lowFirst n a) (lowFirst n b) (length-low-first n a ∙ sym (length-low-first n b))
+
+-- zero bytes in front of a block change nothing
+pub parity-zeros-first : (n : ℕ) (xs : List ℕ) → parity (replicate n 0 ++ xs) ≡ parity xs
+unfolding parity sent
+parity-zeros-first zero xs = refl
+parity-zeros-first (suc n) xs = parity-zeros-first n xs
 
 -- ---- eight steps at once
 

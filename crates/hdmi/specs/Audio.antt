@@ -13,13 +13,13 @@ abbrev pub twos : ℤ → ℕ
 twos (pos n) = n
 twos (negsuc n) = 2 ^ 16 - suc n
 
--- V, U, C and P of a sample, in bits 0..3: V is 1, U and C are 0, and with P the ones of sample, V, U, C and P are even in number
-abbrev pub status : ℤ → ℕ
-status x = 1 + 8 * ((ones (twos x) + 1) % 2)
+-- V, U, C and P of a sample with the bits x, in bits 0..3: V is 1, U and C are 0, and with P the ones of sample, V, U, C and P are even in number
+abbrev pub status : ℕ → ℕ
+status x = 1 + 8 * ((ones x + 1) % 2)
 
 -- A frame: left, then right, each as 24 bits with the sixteen on top, the low byte first; then the status of both.
 unfoldable pub frame : ℤ → ℤ → List ℕ
-frame l r = 0 ∷ twos l % 2 ^ 8 ∷ twos l / 2 ^ 8 ∷ 0 ∷ twos r % 2 ^ 8 ∷ twos r / 2 ^ 8 ∷ (status l + 16 * status r) ∷ []
+frame l r = 0 ∷ twos l % 2 ^ 8 ∷ twos l / 2 ^ 8 ∷ 0 ∷ twos r % 2 ^ 8 ∷ twos r / 2 ^ 8 ∷ (status (twos l) + 16 * status (twos r)) ∷ []
 
 -- how many frames there are in a list of samples, left and right in turn
 abbrev pub frames : List ℤ → ℕ

@@ -4,4 +4,5 @@ pub mod Info
 pub mod Island
 pub mod Packet
 pub mod Parity
+pub mod Period
 pub mod Terc4

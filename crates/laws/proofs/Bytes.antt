@@ -80,3 +80,16 @@ written-read w (x ∷ xs) f =
     let n : length (lowFirst w x) ≡ w = length-low-first w x in
     ap₂ (λ (a : List ℕ) (b : List ℕ). fromLow a ∷ numbersOf w (length xs) b) (take-at (lowFirst w x) (bytesOf w xs) w n) (drop-at (lowFirst w x) (bytesOf w xs) w n)
     ∙ ap₂ (λ (a : ℕ) (b : List ℕ). a ∷ b) (low-back w x (f .0)) (written-read w xs (f .1))
+
+-- every element is a byte
+abbrev pub Bytes : List ℕ → Type 0
+Bytes [] = Unit {0}
+Bytes (x ∷ xs) = (x < 256) × Bytes xs
+
+pub read-written : (xs : List ℕ) → Bytes xs → lowFirst (length xs) (fromLow xs) ≡ xs
+read-written [] h = refl
+read-written (x ∷ xs) h =
+    let byte : x < 256 = h .0 in
+    let low : (x + 256 * fromLow xs) % 256 ≡ x = omega arith in
+    let rest : (x + 256 * fromLow xs) / 256 ≡ fromLow xs = omega arith in
+    ap₂ (λ (y : ℕ) (l : List ℕ). y ∷ l) low (ap (lowFirst (length xs)) rest ∙ read-written xs (h .1))

@@ -1,5 +1,5 @@
 -- Five blocks laid end to end: nothing of what stood there is left, and with right parity bytes they are the packet.
-use mathlib.Core.Path.{_≡_, refl, ap, _∙_}
+use mathlib.Core.Path.{_≡_, refl, sym, ap}
 use mathlib.Core.List.{List, [], _∷_, _++_}
 use Prim.Native.Nat.{ℕ}
 use lib.ListN.{length}
@@ -24,9 +24,12 @@ laid-joined p h a b c d ep eh ea eb ec ed =
     (on-spine 8 (λ c. whole (spine 36 p) (spine 4 h) (spine 8 a) (spine 8 b) c d) c ec
     (on-spine 8 (λ d. whole (spine 36 p) (spine 4 h) (spine 8 a) (spine 8 b) (spine 8 c) d) d ed refl)))))
 
--- a header written out with its parity byte, and four subpackets with theirs
-pub joined-packet : (h : List ℕ) (f : ℕ → List ℕ) (v : ℕ) {a b c d : List ℕ} → parity h ≡ v
-    → a ≡ withParity (f 0) → b ≡ withParity (f 1) → c ≡ withParity (f 2) → d ≡ withParity (f 3)
-    → (h ++ (v ∷ [])) ++ (a ++ (b ++ (c ++ d))) ≡ packetOf h f
-unfolding packetOf withParity
-joined-packet h f v eh ea eb ec ed = rw (ea, eb, ec, ed, eh)
+-- a header written out with its parity byte
+pub header-with : (h : List ℕ) (v : ℕ) → parity h ≡ v → h ++ (v ∷ []) ≡ withParity h
+unfolding withParity
+header-with h v e = ap (λ (x : ℕ). h ++ (x ∷ [])) (sym e)
+
+pub joined-packet : (h : List ℕ) (f : ℕ → List ℕ) {e a b c d : List ℕ} → e ≡ withParity h
+    → a ≡ withParity (f 0) → b ≡ withParity (f 1) → c ≡ withParity (f 2) → d ≡ withParity (f 3) → e ++ (a ++ (b ++ (c ++ d))) ≡ packetOf h f
+unfolding packetOf
+joined-packet h f ee ea eb ec ed = rw (ee, ea, eb, ec, ed)

@@ -1,1 +1,5 @@
+pub mod Counts
+pub mod Fields
+pub mod Infos
 pub mod Laying
+pub mod Samples

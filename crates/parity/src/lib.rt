@@ -1,14 +1,11 @@
-// The parity byte of HDMI's blocks, eight steps of the register at a time.
-use refusal::Refusal;
-use refusal::Verdict;
+// The parity byte of HDMI's blocks.
 ghost use mathlib.Core.Path.{_≡_};
-ghost use Prim.Native.Nat.{_-_, _≤_, _<_};
-ghost use lib.ListN.{length, take, drop, set};
-ghost use Rattle.refusal.specs.Verdict.{verdict, kept};
+ghost use mathlib.Core.List.{[], _∷_};
+ghost use Prim.Native.Nat.{_<_};
+ghost use Rattle.laws.specs.Bytes.{lowFirst};
 ghost use Rattle.hdmi.specs.Parity.{parity};
-ghost use Rattle.hdmi.specs.Packet.{sealed};
-ghost use Rattle.parity.specs.Seal.{sealAsks};
 ghost use Rattle.parity.specs.Steps.{EightSteps};
+ghost use Rattle.parity.specs.Word.{spreadBy};
 
 // Entry x is the register, from 0, after the eight bits of x.
 const BCH_TABLE: [u8; 256] = [
@@ -291,32 +288,55 @@ fn run(table: &[u8; 256], block: &[u8]) -> u8
     v
 }
 
-// The five parity bytes of a packet, worked out from its data bytes.
-pub fn seal(packet: &mut [u8]) -> Verdict
-    ensures { λ r. ⌜ (r ≡ verdict (sealAsks (now (packet .entry)))) × (now (packet .exit) ≡ kept (verdict (sealAsks (now (packet .entry)))) (sealed (now (packet .entry))) (now (packet .entry))) ⌝ }
+// The parity byte of a header's data bytes. Zeros in front of a block don't change it.
+pub fn header_parity(bytes: [u8; 3]) -> u8
+    ensures { λ r. ⌜ r ≡ parity bytes ⌝ }
 {
-    if packet.len() != 36 {
-        return Verdict::Refused(Refusal::Length);
-    }
-    seal_blocks(&BCH_TABLE, packet);
-    Verdict::Fine
+    word_parity(word(0, 0, 0, 0, 0, bytes[0], bytes[1], bytes[2]))
 }
 
-fn seal_blocks(table: &[u8; 256], packet: &mut [u8])
-    requires { ⌜ EightSteps (now table) × (length (now packet) ≡ 36) ⌝ }
-    ensures { λ _. ⌜ now (packet .exit) ≡ sealed (now (packet .entry)) ⌝ }
+// The parity byte of a subpacket's data bytes.
+pub fn subpacket_parity(bytes: [u8; 7]) -> u8
+    ensures { λ r. ⌜ r ≡ parity bytes ⌝ }
 {
-    seal_block(table, packet, 0, 3);
-    seal_block(table, packet, 4, 11);
-    seal_block(table, packet, 12, 19);
-    seal_block(table, packet, 20, 27);
-    seal_block(table, packet, 28, 35);
+    word_parity(word(
+        0,
+        bytes[0],
+        bytes[1],
+        bytes[2],
+        bytes[3],
+        bytes[4],
+        bytes[5],
+        bytes[6],
+    ))
 }
 
-// The bytes from start on, up to the place of their parity byte, are given it.
-fn seal_block(table: &[u8; 256], packet: &mut [u8], start: usize, end: usize)
-    requires { ⌜ EightSteps (now table) × (start ≤ end) × (end < length (now packet)) ⌝ }
-    ensures { λ _. ⌜ now (packet .exit) ≡ set (now (packet .entry)) end (parity (take (end - start) (drop start (now (packet .entry))))) ⌝ }
+// Eight bytes as a word, the first in the lowest bits.
+fn word(a: u8, b: u8, c: u8, d: u8, e: u8, f: u8, g: u8, h: u8) -> u64
+    ensures { λ r. ⌜ lowFirst 8 r ≡ a ∷ b ∷ c ∷ d ∷ e ∷ f ∷ g ∷ h ∷ [] ⌝ }
 {
-    packet[end] = run(table, &packet[start..end]);
+    let low = a as u64 + 256 * (b as u64 + 256 * (c as u64 + 256 * (d as u64)));
+    let high = e as u64 + 256 * (f as u64 + 256 * (g as u64 + 256 * (h as u64)));
+    low + 4294967296 * high
+}
+
+// The parity byte of eight data bytes, the first in the lowest bits, by a division that needs no table: a const table would be copied to the stack
+// at each call. The quotient by the generator, as a power series, is the word times 1 / (1 + u), where u = x + x^2 + x^8. That is the product of
+// 1 + u, 1 + u^2, 1 + u^4 and so on, and u^2 has u's exponents doubled. What lies above the word in quotient times generator is the register.
+fn word_parity(w: u64) -> u8
+    ensures { λ r. ⌜ r ≡ parity (lowFirst 8 w) ⌝ }
+{
+    let a = spread(w, 1, 2, 8);
+    let b = spread(a, 2, 4, 16);
+    let c = spread(b, 4, 8, 32);
+    let q = spread(c, 8, 24, 32) ^ (c << 48) ^ (c << 56);
+    ((q >> 56) ^ (q >> 62) ^ (q >> 63)) as u8
+}
+
+// The word times 1 + x^i + x^j + x^k.
+fn spread(w: u64, i: u32, j: u32, k: u32) -> u64
+    requires { ⌜ (i < 64) × (j < 64) × (k < 64) ⌝ }
+    ensures { λ r. ⌜ r ≡ spreadBy i j k w ⌝ }
+{
+    w ^ (w << i) ^ (w << j) ^ (w << k)
 }

@@ -7,7 +7,7 @@ use borrow.Author.Tests.{eq-eqb, ne-eqb, lt-ltb, le-ltb}
 use lib.ListN.{length}
 use Rattle.hdmi.specs.Clock.{clockBytes}
 use Rattle.hdmi.proofs.Figures.{header-1-0-0}
-use Rattle.packet.proofs.Laying.{joined-packet}
+use Rattle.packet.proofs.Laying.{header-with, joined-packet}
 use Rattle.packet.proofs.set_audio_clock_regeneration.Statement.{statement}
 use Rattle.packet.proofs.set_audio_clock_regeneration.Tie as tie
 
@@ -57,7 +57,7 @@ returns-4 c =
     let a = k .before .before .before .before .before .args in
     let block = k .with-parity .ensures in
     rw (eq-eqb (length (now (a .packet))) 36 (k .before .before .before .if1 .left), lt-ltb (a .cts) 1048576 (k .before .before .if2 .left), lt-ltb (a .n) 1048576 (k .before .if3 .left))
-    (refl, c .before .before .join .ensures ∙ joined-packet (1 ∷ 0 ∷ 0 ∷ []) (λ s. clockBytes (a .cts) (a .n)) 0x4a header-1-0-0 block block block block)
+    (refl, c .before .before .join .ensures ∙ joined-packet (1 ∷ 0 ∷ 0 ∷ []) (λ s. clockBytes (a .cts) (a .n)) (header-with (1 ∷ 0 ∷ 0 ∷ []) 0x4a header-1-0-0) block block block block)
 
 pub set-audio-clock-regeneration-spec : {M : Type 1} → statement M
 set-audio-clock-regeneration-spec =

@@ -30,17 +30,14 @@ array-read-t20 c = search needs
 array-read-t23 : tie.Need-array-read-t23
 array-read-t23 c = search needs
 
-slice-aggregate-compute-bch : tie.Need-slice-aggregate-compute-bch
-slice-aggregate-compute-bch c = search needs
-
-compute-bch-requires : tie.Need-compute-bch-requires
-compute-bch-requires c κs = search needs
+subpacket-parity-requires : tie.Need-subpacket-parity-requires
+subpacket-parity-requires c κs = search needs
 
 returns : tie.Need-returns
 unfolding withParity
 returns c =
-    let start = c .before .before in
-    ap₂ (λ (l : List ℕ) (v : ℕ). l ++ (v ∷ [])) (spine-is 7 (start .args .t1) (omega (arith, start))) (c .compute-bch .ensures)
+    let start = c .before in
+    ap₂ (λ (l : List ℕ) (v : ℕ). l ++ (v ∷ [])) (spine-is 7 (start .args .t1) (omega (arith, start))) (c .subpacket-parity .ensures)
 
 pub with-parity-spec : {M : Type 1} → statement M
 with-parity-spec =
@@ -53,6 +50,5 @@ with-parity-spec =
     array-read-t17
     array-read-t20
     array-read-t23
-    slice-aggregate-compute-bch
-    compute-bch-requires
+    subpacket-parity-requires
     returns)

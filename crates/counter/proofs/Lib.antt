@@ -1,0 +1,5 @@
+pub mod Edges
+pub mod Frame
+pub mod Lines
+pub mod Order
+pub mod States

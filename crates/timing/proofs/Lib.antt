@@ -1,0 +1,6 @@
+pub mod Edges
+pub mod Expanding
+pub mod Levels
+pub mod Order
+pub mod Ranges
+pub mod Upward

@@ -1,0 +1,4 @@
+pub mod Command
+pub mod LineState
+pub mod Sync
+pub mod Timing
