@@ -166,3 +166,63 @@ pub fn terc4_symbol(number: u8) -> Result<u16, Refusal> {
 pub fn read_terc4(symbol: u16) -> Result<u8, Refusal> {
     told(unsafe { raw::chaffrail_read_terc4(symbol) }).map(|a| a.value as u8)
 }
+
+/// Audio clock regeneration: CTS and N have 20 bits. A packet is 36 bytes.
+///
+/// ```
+/// let mut packet = [0; 36];
+/// chaffrail::set_audio_clock_regeneration(&mut packet, 25200, 6144)?;
+/// assert_eq!(packet[..4], [1, 0, 0, 0x4a]);
+/// # Ok::<(), chaffrail::Refusal>(())
+/// ```
+pub fn set_audio_clock_regeneration(packet: &mut [u8], cts: u32, n: u32) -> Result<(), Refusal> {
+    told(unsafe { raw::chaffrail_set_audio_clock_regeneration(packet.as_mut_ptr(), packet.len(), cts, n) }).map(|_| ())
+}
+
+/// Audio info: two channels of 16 bits at this rate.
+pub fn set_audio_info_frame(packet: &mut [u8], rate: u32) -> Result<(), Refusal> {
+    told(unsafe { raw::chaffrail_set_audio_info_frame(packet.as_mut_ptr(), packet.len(), rate) }).map(|_| ())
+}
+
+/// The fields of an AVI info frame, by their numbers in CEA-861-D.
+#[derive(Clone, Copy, Debug, Default, PartialEq, Eq)]
+pub struct Avi {
+    pub scan: u32,
+    pub pixel_format: u32,
+    pub colorimetry: u32,
+    pub picture_aspect: u32,
+    pub active_aspect: u32,
+    pub quantization: u32,
+    pub video_code: u32,
+}
+
+/// AVI info from the numbers of its fields.
+///
+/// ```
+/// let mut packet = [0; 36];
+/// let avi = chaffrail::Avi { active_aspect: 8, picture_aspect: 1, video_code: 1, ..Default::default() };
+/// chaffrail::set_avi_info_frame(&mut packet, avi)?;
+/// assert_eq!(packet[4], 0x46);
+/// # Ok::<(), chaffrail::Refusal>(())
+/// ```
+pub fn set_avi_info_frame(packet: &mut [u8], f: Avi) -> Result<(), Refusal> {
+    told(unsafe {
+        raw::chaffrail_set_avi_info_frame(
+            packet.as_mut_ptr(),
+            packet.len(),
+            f.scan,
+            f.pixel_format,
+            f.colorimetry,
+            f.picture_aspect,
+            f.active_aspect,
+            f.quantization,
+            f.video_code,
+        )
+    })
+    .map(|_| ())
+}
+
+/// The 36 words of an island with one packet, four bytes each, low byte first.
+pub fn encode_island(hv: u8, packet: &[u8], words: &mut [u8]) -> Result<(), Refusal> {
+    told(unsafe { raw::chaffrail_encode_island(hv, packet.as_ptr(), packet.len(), words.as_mut_ptr(), words.len()) }).map(|_| ())
+}

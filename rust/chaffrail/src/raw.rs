@@ -22,4 +22,9 @@ extern "C" {
     pub fn chaffrail_parity(block: *const u8, block_len: usize) -> Answer;
     pub fn chaffrail_terc4_symbol(number: u8) -> Answer;
     pub fn chaffrail_read_terc4(symbol: u16) -> Answer;
+    pub fn chaffrail_set_audio_clock_regeneration(packet: *mut u8, packet_len: usize, cts: u32, n: u32) -> Answer;
+    pub fn chaffrail_set_audio_info_frame(packet: *mut u8, packet_len: usize, rate: u32) -> Answer;
+    #[allow(clippy::too_many_arguments)]
+    pub fn chaffrail_set_avi_info_frame(packet: *mut u8, packet_len: usize, s: u32, y: u32, c: u32, m: u32, r: u32, q: u32, v: u32) -> Answer;
+    pub fn chaffrail_encode_island(hv: u8, packet: *const u8, packet_len: usize, words: *mut u8, words_len: usize) -> Answer;
 }
