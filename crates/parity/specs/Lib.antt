@@ -1,2 +1,3 @@
+pub mod Seal
 pub mod Steps
 pub mod Word

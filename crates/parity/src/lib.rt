@@ -1,9 +1,15 @@
 // The parity byte of HDMI's blocks.
+use refusal::Refusal;
+use refusal::Verdict;
 ghost use mathlib.Core.Path.{_≡_};
 ghost use mathlib.Core.List.{[], _∷_};
-ghost use Prim.Native.Nat.{_<_};
+ghost use Prim.Native.Nat.{_-_, _≤_, _<_};
+ghost use lib.ListN.{length, take, drop, set};
 ghost use Rattle.laws.specs.Bytes.{lowFirst};
+ghost use Rattle.refusal.specs.Verdict.{verdict, kept};
 ghost use Rattle.hdmi.specs.Parity.{parity};
+ghost use Rattle.hdmi.specs.Packet.{sealed};
+ghost use Rattle.parity.specs.Seal.{sealAsks};
 ghost use Rattle.parity.specs.Steps.{EightSteps};
 ghost use Rattle.parity.specs.Word.{spreadBy};
 
@@ -286,6 +292,36 @@ fn run(table: &[u8; 256], block: &[u8]) -> u8
         i += 1;
     }
     v
+}
+
+// The five parity bytes of a packet, worked out from its data bytes.
+pub fn seal(packet: &mut [u8]) -> Verdict
+    ensures { λ r. ⌜ (r ≡ verdict (sealAsks (now (packet .entry)))) × (now (packet .exit) ≡ kept (verdict (sealAsks (now (packet .entry)))) (sealed (now (packet .entry))) (now (packet .entry))) ⌝ }
+{
+    if packet.len() != 36 {
+        return Verdict::Refused(Refusal::Length);
+    }
+    seal_blocks(&BCH_TABLE, packet);
+    Verdict::Fine
+}
+
+fn seal_blocks(table: &[u8; 256], packet: &mut [u8])
+    requires { ⌜ EightSteps (now table) × (length (now packet) ≡ 36) ⌝ }
+    ensures { λ _. ⌜ now (packet .exit) ≡ sealed (now (packet .entry)) ⌝ }
+{
+    seal_block(table, packet, 0, 3);
+    seal_block(table, packet, 4, 11);
+    seal_block(table, packet, 12, 19);
+    seal_block(table, packet, 20, 27);
+    seal_block(table, packet, 28, 35);
+}
+
+// The bytes from start on, up to the place of their parity byte, are given it.
+fn seal_block(table: &[u8; 256], packet: &mut [u8], start: usize, end: usize)
+    requires { ⌜ EightSteps (now table) × (start ≤ end) × (end < length (now packet)) ⌝ }
+    ensures { λ _. ⌜ now (packet .exit) ≡ set (now (packet .entry)) end (parity (take (end - start) (drop start (now (packet .entry))))) ⌝ }
+{
+    packet[end] = run(table, &packet[start..end]);
 }
 
 // The parity byte of a header's data bytes. Zeros in front of a block don't change it.
