@@ -3,6 +3,7 @@ pub mod Everywhere
 pub mod Finite
 pub mod Integers
 pub mod Linear
+pub mod Ones
 pub mod Tables
 pub mod Counting
 pub mod Bits
