@@ -1,3 +1,4 @@
 pub mod Counts
 pub mod Edges
+pub mod Folding
 pub mod Samples

@@ -2,7 +2,8 @@
 use refusal::Refusal;
 ghost use mathlib.Core.Path.{_≡_};
 ghost use mathlib.Core.List.{[], _∷_};
-ghost use Prim.Native.Nat.{_-_, _^_, _≤_, _<_};
+ghost use Prim.Native.Nat.{_+_, _-_, _*_, _/_, _%_, _^_, _≤_, _<_};
+ghost use lib.Count.{ones};
 ghost use lib.IntN.{pos, natAbs};
 ghost use lib.ListN.{length};
 ghost use Rattle.refusal.specs.Verdict.{verdict, answered, kept};
@@ -81,7 +82,6 @@ fn frame_block(samples: &[i16], s: usize) -> [u8; 8]
     if i + 1 < samples.len() {
         let l = sample_bits(samples[i]);
         let r = sample_bits(samples[i + 1]);
-        let status = status_bits(l) + 16 * status_bits(r);
         return blocks::subpacket(
             0,
             (l % 256) as u8,
@@ -89,7 +89,7 @@ fn frame_block(samples: &[i16], s: usize) -> [u8; 8]
             0,
             (r % 256) as u8,
             (r / 256) as u8,
-            status,
+            status_bits(l, r),
         );
     }
     [0u8; 8]
@@ -101,9 +101,22 @@ fn sample_bits(x: i16) -> u16
     ((x as i32) & 0xffff) as u16
 }
 
-// V set, U and C clear, and P.
-fn status_bits(x: u16) -> u8
-    ensures { λ r. ⌜ (r ≡ status x) × (r ≤ 9) ⌝ }
+// V, U, C and P of the left sample in the low half, those of the right one in the high half: V is set, and P makes the ones even.
+fn status_bits(l: u16, r: u16) -> u8
+    ensures { λ b. ⌜ b ≡ status l + 16 * status r ⌝ }
 {
-    1 + 8 * (((u16::count_ones(x) + 1) % 2) as u8)
+    let odd = odd_halves(l as u32 + 65536 * (r as u32));
+    let p = (odd % 2) as u8;
+    let q = (odd / 65536 % 2) as u8;
+    (8 * p + 128 * q) ^ 0x99
+}
+
+// Whether each half has an odd number of ones, in its lowest bit: the halves are folded side by side.
+fn odd_halves(x: u32) -> u32
+    ensures { λ r. ⌜ (r % 2 ≡ ones (x % 65536) % 2) × (r / 65536 % 2 ≡ ones (x / 65536) % 2) ⌝ }
+{
+    let a = x ^ (x >> 8);
+    let b = a ^ (a >> 4);
+    let c = b ^ (b >> 2);
+    c ^ (c >> 1)
 }

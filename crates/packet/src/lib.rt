@@ -18,11 +18,10 @@ use refusal::Verdict;
 ghost use mathlib.Core.Path.{_≡_};
 ghost use mathlib.Core.List.{[], _∷_};
 ghost use Prim.Native.Nat.{_≤_};
-ghost use lib.ListN.{length};
 ghost use Rattle.refusal.specs.Verdict.{verdict, kept};
-ghost use Rattle.hdmi.specs.Parity.{parity};
+ghost use Rattle.hdmi.specs.Parity.{withParity};
 ghost use Rattle.hdmi.specs.Clock.{clockPacket};
-ghost use Rattle.hdmi.specs.Info.{infoFrame, frequencyCode, audioInfoFrame, aviInfoFrame};
+ghost use Rattle.hdmi.specs.Info.{checksum, frequencyCode, audioInfoFrame, aviInfoFrame};
 ghost use Rattle.fields.specs.ScanInfo.{scanNumber};
 ghost use Rattle.fields.specs.PixelFormat.{pixelNumber};
 ghost use Rattle.fields.specs.Colorimetry.{colorNumber};
@@ -65,18 +64,9 @@ pub fn set_audio_info_frame(packet: &mut [u8], rate: u32) -> Verdict
     if packet.len() != 36 {
         return Verdict::Refused(Refusal::Length);
     }
-    info(
-        packet,
-        0x84,
-        1,
-        10,
-        0x4a,
-        0x11,
-        1 + 4 * frequency_code(rate),
-        0,
-        0,
-    );
-    Verdict::Fine
+    let block = info_block(143, 0x11, 1 + 4 * frequency_code(rate), 0, 0);
+    let none = [0u8; 8];
+    blocks::join(packet, [0x84, 1, 10, 0x4a], block, none, none, none)
 }
 
 fn frequency_code(rate: u32) -> u8
@@ -158,41 +148,16 @@ pub fn set_avi_fields(
     }
     let b1 = s.number() + 16 * r.present() + 32 * y.number();
     let b2 = r.number() + 16 * m.number() + 64 * c.number();
-    info(
-        packet,
-        0x82,
-        2,
-        13,
-        0xe4,
-        b1,
-        b2,
-        4 * q.number(),
-        v.number(),
-    );
-    Verdict::Fine
+    let block = info_block(145, b1, b2, 4 * q.number(), v.number());
+    let none = [0u8; 8];
+    blocks::join(packet, [0x82, 2, 13, 0xe4], block, none, none, none)
 }
 
-// An info frame whose data bytes are 0 from the fifth on. The header's parity byte is handed in: it is the same in every frame of a kind.
-fn info(packet: &mut [u8], kind: u8, version: u8, size: u8, check: u8, a: u8, b: u8, c: u8, d: u8)
-    requires { ⌜ (length (now packet) ≡ 36) × (parity (kind ∷ version ∷ size ∷ []) ≡ check) ⌝ }
-    ensures { λ _. ⌜ now (packet .exit) ≡ infoFrame (kind ∷ version ∷ size ∷ []) (a ∷ b ∷ c ∷ d ∷ []) ⌝ }
+// Subpacket 0 of an info frame whose data bytes are 0 from the fifth on. The header's three bytes come in by their sum alone.
+fn info_block(header: u8, a: u8, b: u8, c: u8, d: u8) -> [u8; 8]
+    ensures { λ r. ⌜ r ≡ withParity (checksum (header ∷ a ∷ b ∷ c ∷ d ∷ []) ∷ a ∷ b ∷ c ∷ d ∷ 0 ∷ 0 ∷ []) ⌝ }
 {
-    let sum = kind as u32
-        + version as u32
-        + size as u32
-        + a as u32
-        + b as u32
-        + c as u32
-        + d as u32;
-    let checksum = ((256 - sum % 256) % 256) as u8;
-    let block = blocks::subpacket(checksum, a, b, c, d, 0, 0);
-    let none = [0u8; 8];
-    blocks::join(
-        packet,
-        [kind, version, size, check],
-        block,
-        none,
-        none,
-        none,
-    );
+    let sum = header as u32 + a as u32 + b as u32 + c as u32 + d as u32;
+    let check = ((256 - sum % 256) % 256) as u8;
+    blocks::subpacket(check, a, b, c, d, 0, 0)
 }

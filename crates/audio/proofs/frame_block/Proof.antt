@@ -37,18 +37,6 @@ shared-slice-copy-out-sample-bits-2 c = search needs
 sample-bits-requires-2 : tie.Need-sample-bits-requires-2
 sample-bits-requires-2 c κs = search needs
 
-status-bits-requires : tie.Need-status-bits-requires
-status-bits-requires c κs = search needs
-
-status-bits-requires-2 : tie.Need-status-bits-requires-2
-status-bits-requires-2 c κs = search needs
-
-mul-status : tie.Need-mul-status
-mul-status c = search needs
-
-add-status : tie.Need-add-status
-add-status c = search needs
-
 cast-subpacket : tie.Need-cast-subpacket
 cast-subpacket c = search needs
 
@@ -61,21 +49,22 @@ cast-subpacket-3 c = search needs
 cast-subpacket-4 : tie.Need-cast-subpacket-4
 cast-subpacket-4 c = search needs
 
+status-bits-requires : tie.Need-status-bits-requires
+status-bits-requires c κs = search needs
+
 subpacket-requires : tie.Need-subpacket-requires
 subpacket-requires c κs = search needs
 
 returns : tie.Need-returns
 unfolding frame
 returns c =
-    let s2 = c .before in
-    let s1 = s2 .before in
-    let b2 = s1 .before in
+    let s = c .before in
+    let b2 = s .before in
     let b1 = b2 .before .before in
     let a = b1 .before .before .before .args in
     let l = rw (read-back _ (b1 .before .sample-bits-arg .given)) at (b1 .sample-bits .ensures) in
     let r = rw (read-back _ (b2 .before .sample-bits-arg2 .given)) at (b2 .sample-bits2 .ensures) in
-    c .subpacket .ensures
-    ∙ rw (lt-ltb (a .s) (frames (now (a .samples))) (omega arith), s1 .status-bits .ensures .0, s2 .status-bits2 .ensures .0, l, r)
+    c .subpacket .ensures ∙ rw (lt-ltb (a .s) (frames (now (a .samples))) (omega arith), s .status-bits .ensures, l, r)
 
 returns-2 : tie.Need-returns-2
 returns-2 c =
@@ -95,14 +84,11 @@ frame-block-spec =
     mul-sample-bits-2
     shared-slice-copy-out-sample-bits-2
     sample-bits-requires-2
-    status-bits-requires
-    status-bits-requires-2
-    mul-status
-    add-status
     cast-subpacket
     cast-subpacket-2
     cast-subpacket-3
     cast-subpacket-4
+    status-bits-requires
     subpacket-requires
     returns
     returns-2)

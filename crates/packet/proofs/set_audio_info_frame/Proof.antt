@@ -8,6 +8,7 @@ use borrow.Author.Tests.{eq-eqb, ne-eqb}
 use lib.ListN.{length}
 use Rattle.hdmi.specs.Info.{infoFrame}
 use Rattle.hdmi.proofs.Figures.{header-84-1-10}
+use Rattle.packet.proofs.Infos.{info-joined}
 use Rattle.packet.proofs.set_audio_info_frame.Statement.{statement}
 use Rattle.packet.proofs.set_audio_info_frame.Tie as tie
 
@@ -17,14 +18,17 @@ returns c = rw (ne-eqb (length (now (c .before .before .args .packet))) 36 (c .i
 frequency-code-requires : tie.Need-frequency-code-requires
 frequency-code-requires c κs = search needs
 
-mul-info : tie.Need-mul-info
-mul-info c = search needs
+mul-info-block : tie.Need-mul-info-block
+mul-info-block c = search needs
 
-add-info : tie.Need-add-info
-add-info c = search needs
+add-info-block : tie.Need-add-info-block
+add-info-block c = search needs
 
-info-requires : tie.Need-info-requires
-info-requires c κs = (search needs, header-84-1-10)
+info-block-requires : tie.Need-info-block-requires
+info-block-requires c κs = search needs
+
+join-requires : tie.Need-join-requires
+join-requires c κs = search needs
 
 same-length : tie.Need-same-length
 same-length c = search needs
@@ -33,9 +37,17 @@ returns-2 : tie.Need-returns-2
 unfolding infoFrame
 returns-2 c =
     let k = c .before .before in
-    let e = k .before .before .before in
-    rw (eq-eqb (length (now (e .before .before .args .packet))) 36 (e .if1 .left))
-    (refl, k .info .ensures ∙ ap (λ (f : ℕ). infoFrame (0x84 ∷ 1 ∷ 10 ∷ []) (0x11 ∷ (1 + 4 * f) ∷ 0 ∷ 0 ∷ [])) (k .before .frequency-code .ensures .0))
+    let b = k .before .before in
+    let f = b .before in
+    let e = f .before in
+    let long = eq-eqb (length (now (e .before .before .args .packet))) 36 (e .if1 .left) in
+    let joined = rw long at (k .join .ensures) in
+    rw long (
+      joined .0,
+      joined .1
+          ∙ info-joined 0x84 1 10 0x4a 143 0x11 (1 + 4 * f .frequency-code .result) 0 0 (b .info-block .result) header-84-1-10 refl (b .info-block .ensures)
+          ∙ ap (λ (x : ℕ). infoFrame (0x84 ∷ 1 ∷ 10 ∷ []) (0x11 ∷ (1 + 4 * x) ∷ 0 ∷ 0 ∷ [])) (f .frequency-code .ensures .0),
+    )
 
 pub set-audio-info-frame-spec : {M : Type 1} → statement M
 set-audio-info-frame-spec =
@@ -43,8 +55,9 @@ set-audio-info-frame-spec =
     (tie.spec
     returns
     frequency-code-requires
-    mul-info
-    add-info
-    info-requires
+    mul-info-block
+    add-info-block
+    info-block-requires
+    join-requires
     same-length
     returns-2)
