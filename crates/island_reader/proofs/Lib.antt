@@ -1,6 +1,7 @@
 pub mod Accepted
 pub mod Agree
 pub mod Chain
+pub mod Edges
 pub mod Lowest
 pub mod Nibbles
 pub mod Nowhere
