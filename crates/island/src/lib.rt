@@ -13,6 +13,7 @@ ghost use Rattle.island.specs.Encode.{encodeAsks};
 ghost use Rattle.island.specs.Words.{transposed, Bytes, Pairs, Header, wordFrom};
 use refusal::Refusal;
 use refusal::Verdict;
+use symbol::Tmds3;
 
 // The transposition of four bytes of four bit pairs each: pair s of byte j changes places with pair j of byte s. Done twice, it undoes itself.
 pub fn transpose(v: u32) -> u32
@@ -71,21 +72,21 @@ fn data_word(
     header: u32,
     pairs: u32,
     k: usize,
-) -> u32
+) -> Tmds3
     requires { ⌜ (now symbols ≡ made terc4 0 16) × (now packed ≡ made twoLanes 0 256) × (hv < 4) × (k < 32) ⌝ }
-    ensures { λ r. ⌜ r ≡ wordFrom hv header pairs k ⌝ }
+    ensures { λ r. ⌜ r .0 ≡ wordFrom hv header pairs k ⌝ }
 {
     let zero = lane_zero(hv, ((header >> k) % 2) as usize, k);
     let two = ((pairs >> (8 * (k % 4))) % 256) as usize;
-    (symbols[zero] as u32) | packed[two]
+    Tmds3((symbols[zero] as u32) | packed[two])
 }
 
 // The guard word of a sync pair.
-fn guard(symbols: &[u16; 16], hv: usize) -> u32
+fn guard(symbols: &[u16; 16], hv: usize) -> Tmds3
     requires { ⌜ (now symbols ≡ made terc4 0 16) × (hv < 4) ⌝ }
-    ensures { λ r. ⌜ r ≡ guardWord hv ⌝ }
+    ensures { λ r. ⌜ r .0 ≡ guardWord hv ⌝ }
 {
-    (symbols[12 + hv] as u32) | 0x1334cc00
+    Tmds3((symbols[12 + hv] as u32) | 0x1334cc00)
 }
 
 // Characters 4 i to 4 i + 3, where the words before them stand.
@@ -103,10 +104,10 @@ fn put_four(
 {
     let v = pairs(packet, i);
     let k = 4 * i;
-    words[2 + k] = data_word(symbols, packed, hv, header, v, k);
-    words[3 + k] = data_word(symbols, packed, hv, header, v, k + 1);
-    words[4 + k] = data_word(symbols, packed, hv, header, v, k + 2);
-    words[5 + k] = data_word(symbols, packed, hv, header, v, k + 3);
+    words[2 + k] = data_word(symbols, packed, hv, header, v, k).0;
+    words[3 + k] = data_word(symbols, packed, hv, header, v, k + 1).0;
+    words[4 + k] = data_word(symbols, packed, hv, header, v, k + 2).0;
+    words[5 + k] = data_word(symbols, packed, hv, header, v, k + 3).0;
 }
 
 // The whole island.
@@ -114,7 +115,7 @@ fn fill(symbols: &[u16; 16], packed: &[u32; 256], hv: usize, packet: &[u8], word
     requires { ⌜ (now symbols ≡ made terc4 0 16) × (now packed ≡ made twoLanes 0 256) × (hv < 4) × (length (now packet) ≡ 36) × (length (now words) ≡ 36) ⌝ }
     ensures { λ _. ⌜ now (words .exit) ≡ island hv (now (packet .entry)) ⌝ }
 {
-    let g = guard(symbols, hv);
+    let g = guard(symbols, hv).0;
     let header = gather(packet, 0, 1);
     words[0] = g;
     words[1] = g;

@@ -1,5 +1,8 @@
+pub mod Accepted
 pub mod Agree
 pub mod Chain
+pub mod Edges
+pub mod Lowest
 pub mod Nibbles
 pub mod Nowhere
 pub mod Regroup
@@ -7,3 +10,4 @@ pub mod Sealing
 pub mod Sound
 pub mod SyncPairs
 pub mod Unpacking
+pub mod Whole

@@ -38,24 +38,24 @@ shr-two c = search needs
 cast-two-2 : tie.Need-cast-two-2
 cast-two-2 c = search needs
 
-mul-result : tie.Need-mul-result
-mul-result c = search needs
+mul-t12 : tie.Need-mul-t12
+mul-t12 c = search needs
 
-element-copy-out-result : tie.Need-element-copy-out-result
-element-copy-out-result c = search needs
+element-copy-out-t16 : tie.Need-element-copy-out-t16
+element-copy-out-t16 c = search needs
 
-cast-result : tie.Need-cast-result
-cast-result c =
+cast-t10 : tie.Need-cast-t10
+cast-t10 c =
     let start = c .before .before in
     let n : ℕ = c .before .lane-zero .result in
     let e = symbol-at (start .args .symbols .now) n (start .pre .0) (c .before .lane-zero .ensures .1) in
     record { fits = omega (arith, e, terc4-lt n (c .before .lane-zero .ensures .1)) }
 
-mul-result-2 : tie.Need-mul-result-2
-mul-result-2 c = search needs
+mul-t13 : tie.Need-mul-t13
+mul-t13 c = search needs
 
-element-copy-out-result-2 : tie.Need-element-copy-out-result-2
-element-copy-out-result-2 c = search needs
+element-copy-out-t11 : tie.Need-element-copy-out-t11
+element-copy-out-t11 c = search needs
 
 returns : tie.Need-returns
 unfolding wordFrom twoLanes bit
@@ -81,9 +81,9 @@ data-word-spec =
     cast-two
     shr-two
     cast-two-2
-    mul-result
-    element-copy-out-result
-    cast-result
-    mul-result-2
-    element-copy-out-result-2
+    mul-t12
+    element-copy-out-t16
+    cast-t10
+    mul-t13
+    element-copy-out-t11
     returns)

@@ -11,17 +11,17 @@ use borrow.Author.Needs.{needs}
 use Rattle.island.proofs.guard.Statement.{statement}
 use Rattle.island.proofs.guard.Tie as tie
 
-add-result : tie.Need-add-result
-add-result c = search needs
+add-t3 : tie.Need-add-t3
+add-t3 c = search needs
 
-mul-result : tie.Need-mul-result
-mul-result c = search needs
+mul-t4 : tie.Need-mul-t4
+mul-t4 c = search needs
 
-element-copy-out-result : tie.Need-element-copy-out-result
-element-copy-out-result c = search needs
+element-copy-out-t7 : tie.Need-element-copy-out-t7
+element-copy-out-t7 c = search needs
 
-cast-result : tie.Need-cast-result
-cast-result c =
+cast-t8 : tie.Need-cast-t8
+cast-t8 c =
     let n : ℕ = 12 + c .before .args .hv in
     let e = symbol-at (c .before .args .symbols .now) n (c .before .pre .0) (omega arith) in
     record { fits = omega (arith, e, terc4-lt n (omega arith)) }
@@ -34,4 +34,4 @@ returns c =
     ∙ or-lanes (terc4 n) 0x133 0x133 (terc4-lt n (omega arith))
 
 pub guard-spec : {M : Type 1} → statement M
-guard-spec = tie.close (tie.spec add-result mul-result element-copy-out-result cast-result returns)
+guard-spec = tie.close (tie.spec add-t3 mul-t4 element-copy-out-t7 cast-t8 returns)
