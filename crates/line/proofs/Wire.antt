@@ -2,7 +2,7 @@
 use mathlib.Core.Path.{_≡_, refl, sym, ap, ap₂, _∙_}
 use mathlib.Core.Bool.{Bool, true, false}
 use mathlib.Core.List.{List, [], _∷_, _++_, append-nil, append-assoc}
-use Prim.Native.Nat.{ℕ, _+_, _-_, _≤_}
+use Prim.Native.Nat.{ℕ, _+_, _-_, _≤_, _<_}
 use native.Mathlib.Omega.{arith}
 use lib.Dec.{eqb}
 use lib.ListN.{length, replicate, length-append, length-replicate, replicate-append-replicate}
@@ -17,7 +17,7 @@ use Rattle.timing.specs.Command.{expand, sent}
 use Rattle.timing.specs.Sync.{pairFor, syncFor}
 use Rattle.timing.specs.Timing.{timingAsks}
 use Rattle.timing.proofs.Expanding.{expands}
-use Rattle.timing.proofs.Ranges.{accepted}
+use Rattle.timing.proofs.Ranges.{Within, accepted}
 use Rattle.line.specs.Line.{syncPulse, pulseWords, syncOnly, onlyWords, vSync, lead, islandLine, islandWords}
 use Rattle.line.proofs.Stores.{length-lead}
 
@@ -27,6 +27,19 @@ parts n m w h =
     let e : n - m + m ≡ n = omega arith in
     replicate-append-replicate (n - m) m w ∙ ap (λ (k : ℕ). replicate k w) e
 
+-- what is left of a width after m characters, and a count that is known, are counts that a command takes
+less : {low x : ℕ} (m : ℕ) → Within low x → m < low → Within 1 (x - m)
+less {low} {x} m w h =
+    let l = w .least in
+    let u = w .most in
+    record { least = omega arith; most = omega arith }
+
+count : {n : ℕ} (m : ℕ) → n ≡ m → 1 ≤ m → m ≤ 4095 → Within 1 n
+count {n} m e l u = record { least = omega arith; most = omega arith }
+
+wide : {low x : ℕ} → Within low x → 1 ≤ low → Within 1 x
+wide {low} {x} w h = let l = w .least in record { least = omega arith; most = w .most }
+
 module _ (t : DviTiming) (ok : verdict (timingAsks t) ≡ Fine) where
   -- front porch, sync, back porch
   pub pulse-wire : (v : Bool) → expand (pulseWords t v)
@@ -34,7 +47,8 @@ module _ (t : DviTiming) (ok : verdict (timingAsks t) ≡ Fine) where
   unfolding pulseWords
   pulse-wire v =
       let a = accepted t ok in
-      expands (syncPulse t v) (a .h-front .most, (a .h-sync .most, (omega (arith, a .h-back .most), (omega arith, tt))))
+      expands (syncPulse t v)
+      (wide (a .h-front) (omega arith), (wide (a .h-sync) (omega arith), (less 8 (a .h-back) (omega arith), (count 8 refl (omega arith) (omega arith), tt))))
       ∙ ap (λ (l : List ℕ). replicate (t .«h_front_porch») (syncFor t false v) ++ (replicate (t .«h_sync_width») (syncFor t true v) ++ l))
       (parts (t .«h_back_porch») 8 (syncFor t false v) (omega (arith, a .h-back .least)))
       ∙ simp append-assoc
@@ -44,7 +58,7 @@ module _ (t : DviTiming) (ok : verdict (timingAsks t) ≡ Fine) where
   unfolding onlyWords
   only-wire v =
       let a = accepted t ok in
-      expands (syncOnly t v) (omega (arith, a .h-active .most), (omega arith, tt))
+      expands (syncOnly t v) (less 8 (a .h-active) (omega arith), (count 8 refl (omega arith) (omega arith), tt))
       ∙ parts (t .«h_active_pixels») 8 (syncFor t false v) (omega (arith, a .h-active .least))
 
   module _ (s : ℕ) (p : List ℕ) where
@@ -56,10 +70,19 @@ module _ (t : DviTiming) (ok : verdict (timingAsks t) ≡ Fine) where
     unfolding islandWords
     island-wire =
         let a = accepted t ok in
-        let i = length-island (pairFor t true (vSync s)) p in
-        let r = length-lead t s in
-        expands (islandLine t s p)
-        (omega (arith, a .h-front .most), (omega arith, (omega (arith, i), (omega (arith, a .h-sync .most), (omega (arith, a .h-back .most), (omega (arith, r), tt))))))
+        expands (islandLine t s p) (
+          less 8 (a .h-front) (omega arith),
+          (
+            count 8 refl (omega arith) (omega arith),
+            (
+              count 36 (length-island (pairFor t true (vSync s)) p) (omega arith) (omega arith),
+              (
+                less 36 (a .h-sync) (omega arith),
+                (less 10 (a .h-back) (omega arith), (count 10 (length-lead t s) (omega arith) (omega arith), tt)),
+              ),
+            ),
+          ),
+        )
         ∙ simp (append-assoc, append-nil)
 
     -- in a line that no pixels follow the back porch has nothing but the sync levels

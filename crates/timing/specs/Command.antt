@@ -20,7 +20,7 @@ rawWord count = command 0 count
 abbrev pub repeatWord : ℕ → ℕ
 repeatWord count = command 1 count
 
--- a count that a command word holds; 0 is left out, since with it nothing would be sent
+-- a listed count: what the twelve bits hold, but for 0
 abbrev pub countable : ℕ → Bool
 countable count = leb 1 count && leb count 4095
 
@@ -34,7 +34,7 @@ commandOf c count = answered (verdict (commandAsks count)) (word.Word (command c
 -- ---- the expander at work
 
 -- what it does with the next word: so many words pass as they stand before the next command word, or it repeats the next word so often. Of other
--- commands nothing is said, for none is ever written here.
+-- commands, and of a count of 0, nothing is said, for none is ever written here.
 pub data Mode : Type 0 where
   passing : ℕ → Mode
   repeating : ℕ → Mode
@@ -42,8 +42,9 @@ pub data Mode : Type 0 where
 
 abbrev pub started : ℕ → Mode
 started w =
-    cond (eqb (w / 2 ^ 12 % 2 ^ 4) 0) (passing (w % 2 ^ 12))
-    (cond (eqb (w / 2 ^ 12 % 2 ^ 4) 1) (repeating (w % 2 ^ 12)) unsaid)
+    cond (eqb (w % 2 ^ 12) 0) unsaid
+    (cond (eqb (w / 2 ^ 12 % 2 ^ 4) 0) (passing (w % 2 ^ 12))
+    (cond (eqb (w / 2 ^ 12 % 2 ^ 4) 1) (repeating (w % 2 ^ 12)) unsaid))
 
 abbrev pub expandIn : Mode → List ℕ → List ℕ
 expandIn m [] = []
