@@ -64,19 +64,26 @@ fn symbols() {
     show_read(b"400 read, refused with", 0x400);
 }
 
-fn show_count(name: &[u8], r: FrameCount) {
+fn show_yes(name: &[u8], so: bool) {
     label(name);
-    match r {
-        FrameCount::Next(c) => {
-            if c >= 0 {
-                io::print_decimal(STDOUT_FILENO, c as u64);
-            }
-        }
-        FrameCount::Refused(k, _) => {
-            io::print_decimal(STDOUT_FILENO, k.number() as u64);
-        }
+    if so {
+        io::write_all(STDOUT_FILENO, b"yes");
+    } else {
+        io::write_all(STDOUT_FILENO, b"no");
     }
     line_end();
+}
+
+// Whether the frame count goes on to `want`; the refusal where there is one.
+fn show_count(name: &[u8], r: FrameCount, want: i32) {
+    match r {
+        FrameCount::Next(c) => show_yes(name, c == want),
+        FrameCount::Refused(k, _) => show_verdict(name, Verdict::Refused(k)),
+    }
+}
+
+fn show_byte(name: &[u8], b: u8) {
+    show_hex(name, b as u64, 2);
 }
 
 fn audio_figures() {
@@ -84,21 +91,24 @@ fn audio_figures() {
     let samples = [1i16, -1];
     let none = [0i16; 0];
     show_count(
-        b"audio (1, -1) from count 0, the next count",
+        b"audio (1, -1) from count 0 goes on to 191",
         audio::set_audio(&mut packet, &samples, 0),
+        191,
     );
-    show_hex(b"its header byte 0", packet[0] as u64, 2);
-    show_hex(b"its header byte 1", packet[1] as u64, 2);
-    show_hex(b"its header byte 2", packet[2] as u64, 2);
-    show_hex(b"its status byte", packet[10] as u64, 2);
-    show_hex(b"a byte of its second subpacket", packet[13] as u64, 2);
+    show_byte(b"its header byte 0", packet[0]);
+    show_byte(b"its header byte 1", packet[1]);
+    show_byte(b"its header byte 2", packet[2]);
+    show_byte(b"its status byte", packet[10]);
+    show_byte(b"a byte of its second subpacket", packet[13]);
     show_count(
-        b"no frames from count 0, the next count",
+        b"no frames from count 0 stay at 0",
         audio::set_audio(&mut packet, &none, 0),
+        0,
     );
     show_count(
         b"audio from count 192, refused with",
         audio::set_audio(&mut packet, &samples, 192),
+        0,
     );
 }
 
@@ -108,7 +118,7 @@ fn packet_figures() {
         b"CTS 1048575",
         packet::set_audio_clock_regeneration(&mut packet, 1048575, 6144),
     );
-    show_hex(b"the clock packet's header parity", packet[3] as u64, 2);
+    show_byte(b"the clock packet's header parity", packet[3]);
     show_verdict(
         b"CTS 1048576, refused with",
         packet::set_audio_clock_regeneration(&mut packet, 1048576, 6144),
@@ -117,12 +127,12 @@ fn packet_figures() {
         b"audio info at 48000",
         packet::set_audio_info_frame(&mut packet, 48000),
     );
-    show_hex(b"its checksum", packet[4] as u64, 2);
+    show_byte(b"its checksum", packet[4]);
     show_verdict(
         b"AVI with R 8, M 1, code 1",
         packet::set_avi_info_frame(&mut packet, 0, 0, 0, 1, 8, 0, 1),
     );
-    show_hex(b"its checksum", packet[4] as u64, 2);
+    show_byte(b"its checksum", packet[4]);
     show_verdict(
         b"AVI with R 7, refused with",
         packet::set_avi_info_frame(&mut packet, 0, 0, 0, 1, 7, 0, 1),
@@ -135,10 +145,16 @@ fn front_porch(n: u32) -> DviTiming {
     t
 }
 
+fn show_word(word: u32) {
+    io::print_hex(STDOUT_FILENO, word as u64, 8);
+    line_end();
+}
+
 fn show_words(words: &[u32]) {
-    for i in 0..words.len() {
-        io::print_hex(STDOUT_FILENO, words[i] as u64, 8);
-        line_end();
+    let mut i = 0;
+    while i < words.len() {
+        show_word(words[i]);
+        i += 1;
     }
 }
 
