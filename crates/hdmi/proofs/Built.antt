@@ -1,8 +1,8 @@
 -- What every packet of the four kinds has: right parity, and zeros where nothing is sent.
-use mathlib.Core.Path.{_≡_, refl, sym, ap, _∙_}
+use mathlib.Core.Path.{_≡_, refl, _∙_}
 use mathlib.Core.Bool.{Bool, true, false, cond}
-use mathlib.Core.List.{List, [], _∷_, _++_}
-use Prim.Native.Nat.{ℕ, _+_, _-_, _*_, _/_, _%_, _^_, _<_, _≤_}
+use mathlib.Core.List.{List, [], _∷_}
+use Prim.Native.Nat.{ℕ, _+_, _-_, _*_, _%_, _^_, _<_, _≤_}
 use native.Mathlib.Omega.{arith}
 use borrow.Author.Tests.{le-ltb}
 use lib.Bits.{bitXor}
@@ -12,10 +12,10 @@ use lib.IntN.{ℤ}
 use lib.ListN.{length, getD, take, drop, replicate, length-take, length-drop, length-append, length-replicate}
 use Rattle.laws.proofs.Xor.{on-bit, odd-lt}
 use Rattle.hdmi.specs.Parity.{parity, sent, withParity}
-use Rattle.hdmi.specs.Packet.{header, subpacket, packetOf, RightPacket}
+use Rattle.hdmi.specs.Packet.{subpacket, RightPacket}
 use Rattle.hdmi.specs.Audio.{frame, frames, frameBytes, blockStart, audioPacket, status}
 use Rattle.hdmi.specs.Clock.{clockBytes, clockPacket}
-use Rattle.hdmi.specs.Info.{infoBytes, infoFrame, checksum}
+use Rattle.hdmi.specs.Info.{infoBytes, infoFrame}
 use Rattle.hdmi.proofs.Packet.{packet-right, packet-subpacket}
 
 -- ---- audio

@@ -1,7 +1,6 @@
 -- Worked figures: the parity bytes of three headers, and bytes of built packets.
 use mathlib.Core.Path.{_≡_, refl}
-use mathlib.Core.List.{List, [], _∷_}
-use Prim.Native.Nat.{ℕ}
+use mathlib.Core.List.{[], _∷_}
 use lib.Count.{ones, onesIn}
 use lib.IntN.{pos, negsuc}
 use lib.ListN.{getD, take, replicate}

@@ -7,7 +7,7 @@ use native.Mathlib.Numerals.{add-one}
 use native.Mathlib.Omega.{arith}
 use lib.Arith.{lt-one}
 use lib.Bits.{bitXor, xor-comm, xor-zero-r, xor-self, xor-lt, xor-shr, xor-mod}
-use lib.Dec.{T, eqb, eqb→eq}
+use lib.Dec.{T, eqb→eq}
 use lib.ListN.{length, replicate, getD, drop, take, length-append}
 use lib.Seq.{drop-cons, take-at, getD-append-seam}
 use borrow.Author.Tests.{eq-eqb}
@@ -16,7 +16,7 @@ use Rattle.laws.proofs.Bytes.{length-low-first}
 use Rattle.laws.proofs.Truth.{true-T}
 use Rattle.laws.proofs.Finite.{bounded}
 use Rattle.laws.proofs.Linear.{Linear}
-use Rattle.laws.proofs.Xor.{on-bit, odd-lt, xor-half, xor-odd, xor-assoc, xor-swap}
+use Rattle.laws.proofs.Xor.{on-bit, odd-lt, xor-half, xor-odd, xor-swap}
 use Rattle.hdmi.specs.Parity.{step, register, bitsOf, sent, parity, withParity, right}
 
 -- ---- the register

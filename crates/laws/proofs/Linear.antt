@@ -1,13 +1,13 @@
 -- Maps that are linear in exclusive or. What such a map makes of the powers of two decides what it makes of every number.
 use mathlib.Core.Path.{_≡_, refl, sym, ap, ap₂, _∙_}
-use Prim.Native.Nat.{ℕ, zero, suc, _+_, _*_, _/_, _%_, _^_, _<_}
+use Prim.Native.Nat.{ℕ, zero, suc, _*_, _/_, _%_, _^_, _<_}
 use native.Mathlib.Nat.{add-zero, mod-lt, zero-mul, one-mul}
-use native.Mathlib.Numerals.{add-one, one-add}
+use native.Mathlib.Numerals.{one-add}
 use native.Mathlib.Omega.{arith}
 use lib.Arith.{lt-one}
-use lib.Bits.{bitXor, xor-self, xor-zero-r, xor-shr, xor-mod, xor-block, xor-shifted}
+use lib.Bits.{bitXor, xor-self, xor-shr, xor-mod, xor-block, xor-shifted}
 use lib.Pow.{pow-pos, shr-lt, split}
-use Rattle.laws.proofs.Xor.{on-bit, xor-assoc, xor-swap}
+use Rattle.laws.proofs.Xor.{on-bit, xor-swap}
 
 abbrev pub Linear : (ℕ → ℕ) → Type 0
 Linear f = (a b : ℕ) → f (bitXor a b) ≡ bitXor (f a) (f b)

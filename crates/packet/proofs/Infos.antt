@@ -1,10 +1,10 @@
 -- An info frame from its parts: the block with the checksum, and three of zeros.
-use mathlib.Core.Path.{_≡_, refl, sym, ap, _∙_}
+use mathlib.Core.Path.{_≡_, refl, ap, _∙_}
 use mathlib.Core.List.{List, [], _∷_, _++_}
 use Prim.Native.Nat.{ℕ, _+_, _-_, _*_, _%_}
 use native.Mathlib.Omega.{arith}
 use lib.ListN.{replicate, take, drop}
-use Rattle.hdmi.specs.Parity.{parity, sent, withParity}
+use Rattle.hdmi.specs.Parity.{parity, withParity}
 use Rattle.hdmi.specs.Info.{sum, checksum, infoBytes, infoFrame}
 use Rattle.blocks.proofs.Laying.{zero-block, header-with, joined-packet}
 

@@ -1,13 +1,11 @@
 -- The division that takes a word's parity is linear, as the parity is, and the two agree on the 64 powers of two: so they agree.
 use mathlib.Core.Path.{_≡_, refl}
-use Prim.Native.Nat.{ℕ, _*_, _/_, _%_, _^_, _<_}
+use Prim.Native.Nat.{ℕ, _/_, _^_, _<_}
 use lib.Bits.{bitXor, xor-lt}
-use lib.Dec.{T, eqb}
-use lib.Pow.{shr-lt, pow-mono}
-use native.Mathlib.Nat.{lt-of-lt-of-le}
+use lib.Pow.{shr-lt}
 use native.Mathlib.Omega.{arith}
 use Rattle.laws.specs.Bytes.{lowFirst}
-use Rattle.laws.proofs.Finite.{all, agreed}
+use Rattle.laws.proofs.Finite.{agreed}
 use Rattle.laws.proofs.Linear.{Linear, linear-sum, linear-after, linear-shl, linear-shr, linear-ext}
 use Rattle.hdmi.specs.Parity.{parity, sent}
 use Rattle.hdmi.proofs.Parity.{parity-linear}

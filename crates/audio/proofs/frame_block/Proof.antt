@@ -1,5 +1,5 @@
 -- `audio::frame_block`: the bits of both samples and their status where there is a frame, else zeros.
-use mathlib.Core.Path.{_≡_, refl, _∙_}
+use mathlib.Core.Path.{refl, _∙_}
 use native.Mathlib.Omega.{arith}
 use denote.Ref.{now}
 use borrow.Author.Needs.{needs}

@@ -1,16 +1,16 @@
 -- `packet::set_avi_info_frame`: refused by its length or by the field that isn't listed, else what the fields' builder writes.
-use mathlib.Core.Path.{_≡_, refl, _∙_, subst}
+use mathlib.Core.Path.{refl, _∙_, subst}
 use denote.Ref.{now}
 use borrow.Author.Needs.{needs}
 use borrow.Author.Tests.{eq-eqb, ne-eqb}
 use lib.ListN.{length}
-use Rattle.fields.specs.ScanInfo.{scanNumber, scanNumbers, scanDecided}
-use Rattle.fields.specs.PixelFormat.{pixelNumber, pixelNumbers, pixelDecided}
-use Rattle.fields.specs.Colorimetry.{colorNumber, colorNumbers, colorDecided}
-use Rattle.fields.specs.PictureAspectRatio.{pictureNumber, pictureNumbers, pictureDecided}
-use Rattle.fields.specs.ActiveFormatAspectRatio.{activeNumber, activeNumbers, activeDecided}
-use Rattle.fields.specs.QuantizationRange.{quantizationNumber, quantizationNumbers, quantizationDecided}
-use Rattle.fields.specs.VideoCode.{codeNumber, codeNumbers, codeDecided}
+use Rattle.fields.specs.ScanInfo.{scanNumbers, scanDecided}
+use Rattle.fields.specs.PixelFormat.{pixelNumbers, pixelDecided}
+use Rattle.fields.specs.Colorimetry.{colorNumbers, colorDecided}
+use Rattle.fields.specs.PictureAspectRatio.{pictureNumbers, pictureDecided}
+use Rattle.fields.specs.ActiveFormatAspectRatio.{activeNumbers, activeDecided}
+use Rattle.fields.specs.QuantizationRange.{quantizationNumbers, quantizationDecided}
+use Rattle.fields.specs.VideoCode.{codeNumbers, codeDecided}
 use Rattle.fields.proofs.Deciding.{none-of}
 use Rattle.fields.proofs.Choices.{scan-in, pixel-in, color-in, picture-in, active-in, quantization-in, code-in}
 use Rattle.packet.specs.Asks.{aviTests}

@@ -7,7 +7,7 @@ use borrow.Author.Needs.{needs}
 use lib.Bits.{bitXor, xor-lt}
 use lib.ListN.{length, getD, drop, drop-of-length-le}
 use Rattle.hdmi.specs.Parity.{register, sent, parity}
-use Rattle.hdmi.proofs.Parity.{eight, eight-lt, register-next}
+use Rattle.hdmi.proofs.Parity.{eight-lt, register-next}
 use Rattle.parity.proofs.run.Statement.{statement}
 use Rattle.parity.proofs.run.Tie as tie
 use Rattle.parity.proofs.run.Reads as reads
