@@ -11,7 +11,7 @@ use Rattle.laws.specs.Bit.{bit}
 use Rattle.laws.proofs.Bits.{bit-lt}
 use Rattle.laws.proofs.Digits.{bits-bit, bits-lt}
 use Rattle.laws.proofs.Tables.{made-at}
-use Rattle.dvi.specs.Lanes.{lanes, lane}
+use Rattle.dvi.specs.Lanes.{lane}
 use Rattle.hdmi.specs.Terc4.{terc4, terc4Number}
 use Rattle.hdmi.specs.Island.{guardWord, headerBit, subpacketBit, marker, laneZero, across, dataWord, islandWord, island}
 use Rattle.hdmi.proofs.Terc4.{terc4-lt, number-terc4, terc4-injective}

@@ -1,6 +1,6 @@
 -- Three lanes in a word: each is found again, the word has 30 bits, and a word of 30 bits is its lanes.
 use mathlib.Core.Path.{_≡_}
-use Prim.Native.Nat.{ℕ, _+_, _*_, _/_, _%_, _^_, _<_}
+use Prim.Native.Nat.{ℕ, _+_, _*_, _/_, _^_, _<_}
 use native.Mathlib.Omega.{arith}
 use Rattle.dvi.specs.Lanes.{lanes, lane}
 

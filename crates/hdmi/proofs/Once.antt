@@ -1,7 +1,7 @@
 -- No two packets of 36 bytes and no two sync pairs have the same island; and already one word has only one sync pair and one bit of each block.
 use mathlib.Core.Path.{_≡_, sym, ap, subst, _∙_}
 use mathlib.Core.List.{List}
-use Prim.Native.Nat.{ℕ, _+_, _-_, _*_, _/_, _%_, _^_, _<_}
+use Prim.Native.Nat.{ℕ, _+_, _-_, _*_, _/_, _%_, _<_}
 use native.Mathlib.Decide.{decLt}
 use native.Mathlib.Omega.{arith}
 use lib.ListN.{length, getD}
@@ -10,7 +10,7 @@ use Rattle.laws.specs.Bit.{bit}
 use Rattle.laws.proofs.Bits.{bit-ext}
 use Rattle.dvi.specs.Lanes.{lane}
 use Rattle.hdmi.specs.Terc4.{terc4Number}
-use Rattle.hdmi.specs.Island.{guardWord, headerBit, subpacketBit, dataWord, islandWord, island}
+use Rattle.hdmi.specs.Island.{headerBit, subpacketBit, dataWord, islandWord, island}
 use Rattle.hdmi.proofs.Island.{island-at, data-at, guard-low, guard-once, tells-pair, tells-header, tells-subpacket}
 
 -- ---- one word

@@ -2,6 +2,7 @@
 use mathlib.Core.Path.{_≡_, sym, ap, _∙_}
 use Prim.Native.Nat.{ℕ, _≤_, _<_}
 use borrow.Author.Tests.{eqb-true}
+use native.Mathlib.Decide.{decLt}
 use native.Mathlib.Omega.{arith}
 use lib.Dec.{eqb}
 use Rattle.laws.proofs.Finite.{agreed, bounded}
@@ -33,3 +34,10 @@ terc4-injective m n hm hn e = sym (number-terc4 m hm) ∙ ap terc4Number e ∙ n
 -- a symbol of ten bits: no greater number is read as one
 pub number-lt : (x : ℕ) → terc4Number x < 16 → x < 1024
 number-lt x h = rw (terc4-number x h) (terc4-lt (terc4Number x) h)
+
+none-by : (x : ℕ) → 1024 ≤ x → Dec (terc4Number x < 16) → terc4Number x ≡ 16
+none-by x h (yes l) = absurd (omega (arith, number-lt x l))
+none-by x h (no l) = omega (arith, l, number-le x)
+
+pub number-none : (x : ℕ) → 1024 ≤ x → terc4Number x ≡ 16
+number-none x h = none-by x h (decLt (terc4Number x) 16)

@@ -1,6 +1,6 @@
 -- HDMI 1.3a, sections 5.2.3.3 to 5.2.3.5 (data islands): the 36 words of an island with one packet, from its sync pair and the packet's 36 bytes.
 -- The sync pair hv is HSYNC's level, plus 2 times VSYNC's.
-use mathlib.Core.Bool.{Bool, cond, _&&_}
+use mathlib.Core.Bool.{cond, _&&_}
 use mathlib.Core.List.{List}
 use Prim.Native.Nat.{ℕ, zero, suc, _+_, _-_, _*_, _/_, _%_}
 use lib.Dec.{leb, ltb}

@@ -1,5 +1,5 @@
 -- HDMI 1.3a, section 5.4.3 (TERC4 coding): the sixteen symbols that carry four bits each during a data island.
-use mathlib.Core.List.{List, [], _∷_}
+use mathlib.Core.List.{[], _∷_}
 use Prim.Native.Nat.{ℕ}
 use lib.Dec.{eqb}
 use lib.ListN.{getD}

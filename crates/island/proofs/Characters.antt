@@ -1,5 +1,5 @@
 -- The transposition, as two delta swaps; and a word's characters from the transposed pairs and the header's word.
-use mathlib.Core.Path.{_≡_, refl, sym, ap, ap₂, _∙_}
+use mathlib.Core.Path.{_≡_, ap, ap₂, _∙_}
 use mathlib.Core.Bool.{_&&_}
 use mathlib.Core.List.{List, [], _∷_}
 use Prim.Native.Nat.{ℕ, _+_, _*_, _/_, _%_, _^_, _<_}
@@ -13,12 +13,11 @@ use Rattle.laws.proofs.Bits.{bit-mod, bit-shr}
 use Rattle.laws.proofs.Digits.{numeral-agree, numeral-bit}
 use Rattle.laws.proofs.Finite.{below}
 use Rattle.laws.proofs.Swaps.{Swap, swap, swaps, sources, orderly, swaps-bit}
-use Rattle.laws.proofs.Tables.{made, made-at}
 use Rattle.laws.proofs.Truth.{and-left, and-right}
 use Rattle.dvi.specs.Lanes.{lanes}
 use Rattle.hdmi.specs.Terc4.{terc4}
 use Rattle.hdmi.specs.Island.{headerBit, subpacketBit, marker, across, dataWord}
-use Rattle.terc4.specs.Tables.{evens, odds, twoLanes}
+use Rattle.terc4.specs.Tables.{evens, odds}
 use Rattle.island.specs.Words.{transposed, Bytes, Pairs, Header, pairsOf, wordFrom}
 
 -- ---- the transposition
@@ -65,14 +64,6 @@ unfolding Header headerBit Bytes
 header-of p h bytes k l =
     let d : k ≡ 8 * (k / 8) + k % 8 = omega arith in
     ap (λ (j : ℕ). bit j h) d ∙ bytes (k / 8) (k % 8) (omega arith) (omega arith) ∙ ap (λ (m : ℕ). bit (k % 8) (getD p m 0)) (omega arith)
-
--- ---- the tables
-
-pub symbol-at : (t : List ℕ) (n : ℕ) → t ≡ made terc4 0 16 → n < 16 → getD t n 0 ≡ terc4 n
-symbol-at t n e h = ap (λ (l : List ℕ). getD l n 0) e ∙ made-at terc4 16 n h
-
-pub packed-at : (t : List ℕ) (n : ℕ) → t ≡ made twoLanes 0 256 → n < 256 → getD t n 0 ≡ twoLanes n
-packed-at t n e h = ap (λ (l : List ℕ). getD l n 0) e ∙ made-at twoLanes 256 n h
 
 -- lane 0 or-ed in below the two others
 pub or-lanes : (a b c : ℕ) → a < 1024 → bitOr a (lanes 0 b c) ≡ lanes a b c

@@ -3,7 +3,7 @@ use mathlib.Core.Path.{_≡_, sym, ap, subst, _∙_}
 use mathlib.Core.List.{List}
 use Prim.Native.Nat.{ℕ, _+_, _≤_, _<_}
 use native.Mathlib.Omega.{arith}
-use lib.ListN.{getD, set}
+use lib.ListN.{set}
 use Rattle.laws.specs.Front.{Front}
 use Rattle.laws.proofs.Fronts.{front-more}
 use Rattle.hdmi.specs.Island.{guardWord, dataWord, islandWord, island}

@@ -1,18 +1,17 @@
 -- The reader accepts exactly the encodings of packets with right parity, and answers that sync pair and that packet; no second answer fits.
-use mathlib.Core.Path.{_≡_, refl, sym, ap, ap₂, subst, _∙_}
-use mathlib.Core.Bool.{Bool, true, false, not}
+use mathlib.Core.Path.{_≡_, refl, sym, ap, subst, _∙_}
+use mathlib.Core.Bool.{true, not}
 use mathlib.Core.List.{List, [], _∷_, _++_}
-use Prim.Native.Nat.{ℕ, _+_, _≤_, _<_}
+use Prim.Native.Nat.{ℕ, _<_}
 use native.Mathlib.Omega.{arith}
-use borrow.Author.Tests.{eqb-true, eq-eqb, not-false}
-use lib.Dec.{T, eqb}
+use borrow.Author.Tests.{eqb-true, not-false}
+use lib.Dec.{eqb}
 use lib.ListN.{length, getD}
 use Rattle.laws.proofs.Truth.{true-T, T-true}
-use Rattle.refusal.specs.declared.Refusal.{Refusal}
 use Rattle.refusal.specs.declared.Refusal.the-variants.{Length, HeaderParity, SubpacketParity}
 use Rattle.refusal.specs.declared.Verdict.{Verdict}
 use Rattle.refusal.specs.declared.Verdict.the-variants.{Fine, Refused}
-use Rattle.refusal.specs.Verdict.{Ask, ask, unless, verdict, answered, kept}
+use Rattle.refusal.specs.Verdict.{Ask, ask, verdict, answered, kept}
 use Rattle.refusal.proofs.Verdicts.{joined, goes-on}
 use Rattle.hdmi.specs.Parity.{right}
 use Rattle.hdmi.specs.Packet.{header, subpacket, RightPacket}

@@ -1,16 +1,15 @@
 -- Where every lane is TERC4, what the numbers say is what the words say: the bits, the packet, and the sync bits.
 use mathlib.Core.Path.{_≡_, refl, sym, ap, ap₂, _∙_}
-use mathlib.Core.Bool.{Bool, true, false, not, cond, _&&_}
+use mathlib.Core.Bool.{Bool, false, not, _&&_}
 use mathlib.Core.List.{List, [], _∷_}
 use Prim.Native.Nat.{ℕ, zero, suc, _+_, _-_, _*_, _/_, _%_, _^_, _≤_, _<_}
 use native.Mathlib.Decide.{decLt, ℕ-discrete}
 use native.Mathlib.Omega.{arith}
 use borrow.Author.Tests.{lt-ltb, le-ltb, eq-eqb, ne-eqb}
-use lib.Dec.{eqb, ltb}
+use lib.Dec.{eqb}
 use lib.ListN.{length, getD}
 use lib.Seq.{ext-getD}
 use Rattle.laws.specs.Bit.{bit}
-use Rattle.laws.specs.Search.{first}
 use Rattle.laws.proofs.Bits.{bit-mod, bit-shr}
 use Rattle.laws.proofs.Digits.{numeral-agree}
 use Rattle.laws.proofs.Searching.{first-agree}

@@ -1,15 +1,14 @@
 -- The numbers of a word's lanes in one number: there and back.
-use mathlib.Core.Path.{_≡_, refl, sym, ap, _∙_}
-use mathlib.Core.Bool.{Bool, true, false, not, cond, _&&_, _||_}
+use mathlib.Core.Path.{_≡_, refl}
+use mathlib.Core.Bool.{Bool, true, false, _||_}
 use mathlib.Core.List.{List}
-use Prim.Native.Nat.{ℕ, _+_, _-_, _*_, _/_, _%_, _≤_, _<_}
+use Prim.Native.Nat.{ℕ, _+_, _*_, _≤_, _<_}
 use native.Mathlib.Omega.{arith}
 use borrow.Author.Tests.{eqb-false, eq-eqb, ne-eqb}
 use lib.Dec.{eqb}
 use lib.ListN.{length, getD}
-use Rattle.laws.proofs.Tables.{made, made-at}
+use Rattle.laws.proofs.Tables.{made-at}
 use Rattle.dvi.specs.Lanes.{lane}
-use Rattle.hdmi.specs.Terc4.{terc4Number}
 use Rattle.hdmi.proofs.Terc4.{number-le}
 use Rattle.island_reader.specs.Found.{numberOn, unread}
 use Rattle.island_reader.specs.Numbers.{numbersOf, numbersIn}

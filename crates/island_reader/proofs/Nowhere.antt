@@ -1,12 +1,11 @@
 -- The question about many places, by what the search finds.
-use mathlib.Core.Path.{_≡_, refl, sym, ap, _∙_}
+use mathlib.Core.Path.{_≡_, refl, sym, _∙_}
 use mathlib.Core.Bool.{Bool, true, false}
 use mathlib.Core.List.{[], _∷_}
 use Prim.Native.Nat.{ℕ, _+_, _≤_, _<_}
 use native.Mathlib.Decide.{decLt}
 use native.Mathlib.Omega.{arith}
 use borrow.Author.Tests.{eq-eqb, ne-eqb, eqb-true, eqb-false}
-use lib.Dec.{eqb}
 use Rattle.laws.specs.Search.{first}
 use Rattle.laws.proofs.Searching.{before, none, found, first-le, first-ge}
 use Rattle.refusal.specs.declared.Refusal.{Refusal}

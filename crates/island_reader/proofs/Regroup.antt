@@ -1,5 +1,5 @@
 -- From the numbers of the lanes back to the subpackets' bytes: a shuffle of nibbles, and the transposition that the writer uses.
-use mathlib.Core.Path.{_≡_, refl, sym, ap, ap₂, _∙_}
+use mathlib.Core.Path.{_≡_, sym, ap, ap₂, _∙_}
 use mathlib.Core.Bool.{_&&_}
 use mathlib.Core.List.{List, [], _∷_}
 use Prim.Native.Nat.{ℕ, _+_, _*_, _/_, _%_, _^_, _<_}
@@ -15,7 +15,7 @@ use Rattle.laws.proofs.Swaps.{Swap, swap, swaps, sources, orderly, swaps-bit}
 use Rattle.laws.proofs.Truth.{and-left, and-right}
 use Rattle.island.specs.Words.{transposed, Bytes}
 use Rattle.island.proofs.Characters.{transposed-pair, joined-bytes}
-use Rattle.island_reader.specs.Numbers.{headerIn, subpacketIn, headerByteIn, subpacketByteIn, groupIn, shuffled}
+use Rattle.island_reader.specs.Numbers.{headerIn, subpacketIn, subpacketByteIn, groupIn, shuffled}
 
 -- ---- the shuffle
 

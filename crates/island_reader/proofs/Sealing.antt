@@ -1,5 +1,5 @@
 -- Right parity, by the packet sealed anew: a block is right exactly when its last byte is the sealed packet's.
-use mathlib.Core.Path.{_≡_, refl, sym, ap, ap₂, _∙_}
+use mathlib.Core.Path.{_≡_, sym, ap, ap₂, _∙_}
 use mathlib.Core.Bool.{Bool, true, false, not}
 use mathlib.Core.List.{List, [], _∷_}
 use Prim.Native.Nat.{ℕ, _+_, _*_, _<_}
@@ -13,10 +13,9 @@ use Rattle.refusal.specs.declared.Verdict.the-variants.{Fine, Refused}
 use Rattle.refusal.specs.Verdict.{Ask, ask, unless, verdict}
 use Rattle.hdmi.specs.Parity.{parity, withParity, right}
 use Rattle.hdmi.specs.Packet.{header, subpacket, sealed}
-use Rattle.hdmi.proofs.Packet.{packet-length, packet-header, packet-subpacket}
+use Rattle.hdmi.proofs.Packet.{packet-header, packet-subpacket}
 use Rattle.island_reader.specs.Read.{nowhere, parityAsks}
 use Rattle.island_reader.proofs.Chain.{first-refuses, first-passes}
-use Rattle.island_reader.proofs.Nowhere.{refused-at, found-none}
 
 -- the byte behind n data bytes
 last-byte : (xs : List ℕ) (n : ℕ) → length xs ≡ n → getD (withParity xs) n 0 ≡ parity xs

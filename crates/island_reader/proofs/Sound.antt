@@ -22,7 +22,7 @@ use Rattle.hdmi.specs.Island.{guardWord, headerBit, subpacketBit, marker, laneZ
 use Rattle.hdmi.proofs.Island.{length-island, island-at, data-at, guard-low, guard-high}
 use Rattle.hdmi.proofs.Lanes.{of-lanes}
 use Rattle.hdmi.proofs.Terc4.{terc4-number}
-use Rattle.island_reader.specs.Found.{pairOf, numberOn, unread, headerFound, subpacketFound, headerByte, subpacketByte, byteFound, packetFound}
+use Rattle.island_reader.specs.Found.{pairOf, numberOn, headerFound, subpacketFound, headerByte, subpacketByte, byteFound, packetFound}
 use Rattle.island_reader.specs.Read.{highBits, guardPlace, syncWrong, wordAsks}
 use Rattle.island_reader.proofs.Agree.{length-found, found-at}
 use Rattle.island_reader.proofs.Chain.{words-passed, guard-right, lanes-right}

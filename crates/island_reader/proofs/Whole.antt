@@ -1,16 +1,16 @@
 -- Of an island nothing is refused before its parity.
-use mathlib.Core.Path.{_≡_, refl, sym, ap, subst, _∙_}
-use mathlib.Core.Bool.{Bool, true, false, not, _&&_}
-use mathlib.Core.List.{List, [], _∷_}
+use mathlib.Core.Path.{_≡_, sym, ap, subst, _∙_}
+use mathlib.Core.Bool.{Bool, true, false, not}
+use mathlib.Core.List.{List}
 use Prim.Native.Nat.{ℕ, zero, suc, _+_, _-_, _*_, _/_, _%_, _^_, _≤_, _<_}
 use native.Mathlib.Omega.{arith}
 use borrow.Author.Tests.{lt-ltb, eq-eqb}
-use lib.Dec.{eqb, ltb}
+use lib.Dec.{eqb}
 use lib.ListN.{getD}
 use Rattle.refusal.specs.declared.Refusal.the-variants.{HighBits, GuardWord, NotTerc4, SyncBits}
 use Rattle.refusal.specs.declared.Verdict.the-variants.{Fine}
-use Rattle.refusal.specs.Verdict.{unless, verdict}
-use Rattle.hdmi.specs.Island.{guardWord, marker, laneZero, across, dataWord, islandWord, island}
+use Rattle.refusal.specs.Verdict.{verdict}
+use Rattle.hdmi.specs.Island.{guardWord, marker, dataWord, island}
 use Rattle.hdmi.proofs.Island.{island-at, data-at, guard-low, guard-high, every-word, zero-lt, across-lt, guard-lt, data-lt, on-lane-0, on-lane-1, on-lane-2, tells-pair, tells-marker}
 use Rattle.island_reader.specs.Found.{pairOf, numberOn, unread}
 use Rattle.island_reader.specs.Read.{highBits, guardPlace, guardWrong, laneWrong, syncWrong, highAsk, guardAsk, laneAsk, syncAsk, wordAsks}

@@ -8,7 +8,7 @@ ghost use Rattle.laws.proofs.Tables.{made};
 ghost use Rattle.refusal.specs.declared.Refusal.the-variants.{SyncBits};
 ghost use Rattle.refusal.specs.declared.Verdict.the-variants.{Fine};
 ghost use Rattle.refusal.specs.Verdict.{verdict};
-ghost use Rattle.terc4.specs.Tables.{candidate};
+ghost use Rattle.hdmi.specs.Terc4.{terc4Number};
 ghost use Rattle.island_reader.specs.Found.{pairOf, numberOn, packetFound};
 ghost use Rattle.island_reader.specs.Numbers.{numbersOf, numbersIn, headerIn, headerByteIn, groupIn, packetIn, Unpacked, shuffled, syncUnlike};
 ghost use Rattle.hdmi.specs.Packet.{sealed as resealed};
@@ -73,16 +73,16 @@ fn guards(hv: u8, words: &[u32]) -> Verdict
 }
 
 // The number on lane t of a word, and 16 for none.
-fn on_lane(table: &[u32; 32], word: Tmds3, t: u32) -> u32
-    requires { ⌜ (now table ≡ made candidate 0 32) × (t < 3) ⌝ }
+fn on_lane(table: &[u8; 1024], word: Tmds3, t: u32) -> u32
+    requires { ⌜ (now table ≡ made terc4Number 0 1024) × (t < 3) ⌝ }
     ensures { λ r. ⌜ (r ≡ numberOn t (word .0)) × (r ≤ 16) ⌝ }
 {
-    terc4::number_in(table, (word.0 >> (10 * t)) % 1024)
+    table[((word.0 >> (10 * t)) % 1024) as usize] as u32
 }
 
 // The numbers of a word's three lanes, four bits each; 4096 where a lane isn't TERC4.
-fn numbers(table: &[u32; 32], word: Tmds3) -> u32
-    requires { ⌜ now table ≡ made candidate 0 32 ⌝ }
+fn numbers(table: &[u8; 1024], word: Tmds3) -> u32
+    requires { ⌜ now table ≡ made terc4Number 0 1024 ⌝ }
     ensures { λ r. ⌜ r ≡ numbersOf (word .0) ⌝ }
 {
     let a = on_lane(table, word, 0);
@@ -101,8 +101,8 @@ fn numbers(table: &[u32; 32], word: Tmds3) -> u32
 }
 
 // Every lane of words 2 to 33 is TERC4; and their numbers.
-fn lanes(table: &[u32; 32], words: &[u32], found: &mut [u32]) -> Verdict
-    requires { ⌜ (now table ≡ made candidate 0 32) × (length (now words) ≡ 36) × (length (now found) ≡ 32) ⌝ }
+fn lanes(table: &[u8; 1024], words: &[u32], found: &mut [u32]) -> Verdict
+    requires { ⌜ (now table ≡ made terc4Number 0 1024) × (length (now words) ≡ 36) × (length (now found) ≡ 32) ⌝ }
     ensures answer { λ r. ⌜ r ≡ verdict (laneAsk (now (words .entry)) ∷ []) ⌝ }
     ensures read { λ r. ⌜ (r ≡ Fine → now (found .exit) ≡ numbersIn (now (words .entry))) ⌝ }
 {
@@ -221,8 +221,8 @@ fn unpack(found: &[u32], packet: &mut [u8])
 }
 
 // What is wrong with the words; and where nothing is, the numbers of their lanes.
-fn judge(table: &[u32; 32], hv: u8, words: &[u32], found: &mut [u32]) -> Verdict
-    requires { ⌜ (now table ≡ made candidate 0 32) × (length (now words) ≡ 36) × (length (now found) ≡ 32) × (hv ≡ pairOf (getD (now words) 0 0)) ⌝ }
+fn judge(table: &[u8; 1024], hv: u8, words: &[u32], found: &mut [u32]) -> Verdict
+    requires { ⌜ (now table ≡ made terc4Number 0 1024) × (length (now words) ≡ 36) × (length (now found) ≡ 32) × (hv ≡ pairOf (getD (now words) 0 0)) ⌝ }
     ensures answer { λ r. ⌜ r ≡ verdict (wordAsks (now (words .entry))) ⌝ }
     ensures read { λ r. ⌜ (r ≡ Fine → now (found .exit) ≡ numbersIn (now (words .entry))) ⌝ }
 {
@@ -282,7 +282,7 @@ fn check(words: &[u32], bytes: &mut [u8]) -> Verdict
     ensures answer { λ r. ⌜ r ≡ verdict (wordAsks (now (words .entry)) ++ parityAsks (packetFound (now (words .entry)))) ⌝ }
     ensures read { λ r. ⌜ (r ≡ Fine → now (bytes .exit) ≡ packetFound (now (words .entry))) ⌝ }
 {
-    let table = terc4::candidates();
+    let table = terc4::numbers();
     let hv = pair(Tmds3(words[0]));
     let mut found = [0u32; 32];
     let judged = judge(&table, hv, words, &mut found);

@@ -1,5 +1,5 @@
 -- What the two entries answer: a number is refused exactly above 15, a symbol exactly when it is none of the sixteen, and reading inverts writing.
-use mathlib.Core.Path.{_≡_, refl, sym, ap, _∙_}
+use mathlib.Core.Path.{_≡_, refl, ap, _∙_}
 use mathlib.Core.Bool.{Bool, true, false}
 use Prim.Native.Nat.{ℕ, _<_}
 use native.Mathlib.Omega.{arith}

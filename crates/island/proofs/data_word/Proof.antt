@@ -9,7 +9,8 @@ use Rattle.hdmi.specs.Terc4.{terc4}
 use Rattle.hdmi.proofs.Terc4.{terc4-lt}
 use Rattle.terc4.specs.Tables.{evens, odds, twoLanes}
 use Rattle.island.specs.Words.{pairsOf, wordFrom}
-use Rattle.island.proofs.Characters.{symbol-at, packed-at, or-lanes}
+use Rattle.terc4.proofs.Lookup.{symbol-at, packed-at}
+use Rattle.island.proofs.Characters.{or-lanes}
 use borrow.Author.Needs.{needs}
 use Rattle.island.proofs.data_word.Statement.{statement}
 use Rattle.island.proofs.data_word.Tie as tie

@@ -6,7 +6,8 @@ use lib.Bits.{bitOr}
 use Rattle.hdmi.specs.Terc4.{terc4}
 use Rattle.hdmi.specs.Island.{guardWord}
 use Rattle.hdmi.proofs.Terc4.{terc4-lt}
-use Rattle.island.proofs.Characters.{symbol-at, or-lanes}
+use Rattle.terc4.proofs.Lookup.{symbol-at}
+use Rattle.island.proofs.Characters.{or-lanes}
 use borrow.Author.Needs.{needs}
 use Rattle.island.proofs.guard.Statement.{statement}
 use Rattle.island.proofs.guard.Tie as tie

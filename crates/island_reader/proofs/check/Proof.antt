@@ -21,8 +21,8 @@ use borrow.Author.Needs.{needs}
 use Rattle.island_reader.proofs.check.Statement.{statement}
 use Rattle.island_reader.proofs.check.Tie as tie
 
-candidates-requires : tie.Need-candidates-requires
-candidates-requires c κs = search needs
+numbers-requires : tie.Need-numbers-requires
+numbers-requires c κs = search needs
 
 shared-slice-read-t10 : tie.Need-shared-slice-read-t10
 shared-slice-read-t10 c = search needs
@@ -102,7 +102,7 @@ pub check-spec : {M : Type 1} → statement M
 check-spec =
     tie.close
     (tie.spec
-    candidates-requires
+    numbers-requires
     shared-slice-read-t10
     pair-requires
     slice-aggregate-judge

@@ -1,43 +1,41 @@
--- `terc4::read` meets its contract: the candidate's number is the definition's.
-use mathlib.Core.Path.{_≡_, ap, _∙_}
+-- `terc4::read` meets its contract.
+use mathlib.Core.Path.{ap}
 use Prim.Native.Nat.{ℕ}
 use native.Mathlib.Omega.{arith}
 use borrow.Author.Tests.{lt-ltb, le-ltb}
-use borrow.Author.Needs.{needs}
-use Rattle.hdmi.specs.Terc4.{terc4, terc4Number}
-use Rattle.hdmi.proofs.Terc4.{number-le}
+use Rattle.hdmi.specs.Terc4.{terc4Number}
+use Rattle.hdmi.proofs.Terc4.{number-le, number-none}
 use Rattle.terc4.specs.declared.Terc4Number.the-variants.{Number}
-use Rattle.terc4.specs.Tables.{candidate}
-use Rattle.terc4.proofs.Lookup.{number-in}
+use Rattle.terc4.proofs.Lookup.{number-at}
+use borrow.Author.Needs.{needs}
 use Rattle.terc4.proofs.read.Statement.{statement}
 use Rattle.terc4.proofs.read.Tie as tie
 
-cast-number-in : tie.Need-cast-number-in
-cast-number-in c = search needs
-
-number-in-requires : tie.Need-number-in-requires
-number-in-requires c κs = search needs
-
 returns : tie.Need-returns
-unfolding candidate terc4
 returns c =
-    let x : ℕ = c .before .before .before .before .args .symbol .0 in
-    let e : c .before .number-in .result ≡ terc4Number x = c .before .number-in .ensures ∙ number-in x in
-    simp (le-ltb (terc4Number x) 16 (omega arith))
+    let x : ℕ = c .before .args .symbol .0 in
+    simp (le-ltb (terc4Number x) 16 (omega (arith, number-none x (c .if1 .taken))))
 
-cast-t8 : tie.Need-cast-t8
-unfolding candidate terc4
-cast-t8 c =
-    let x : ℕ = c .before .before .before .before .args .symbol .0 in
-    let e : c .before .number-in .result ≡ terc4Number x = c .before .number-in .ensures ∙ number-in x in
-    record { fits = omega (arith, number-le x) }
+numbers-requires : tie.Need-numbers-requires
+numbers-requires c κs = search needs
+
+cast-n : tie.Need-cast-n
+cast-n c = search needs
+
+array-read-n : tie.Need-array-read-n
+array-read-n c = search needs
 
 returns-2 : tie.Need-returns-2
-unfolding candidate terc4
 returns-2 c =
-    let x : ℕ = c .before .before .before .before .args .symbol .0 in
-    let e : c .before .number-in .result ≡ terc4Number x = c .before .number-in .ensures ∙ number-in x in
-    simp (lt-ltb (terc4Number x) 16 (omega (arith, number-le x, c .if1 .left))) (ap Number e)
+    let x : ℕ = c .before .before .before .args .symbol .0 in
+    let e = number-at (c .before .numbers .result) x (c .before .numbers .ensures) (c .before .before .if1 .left) in
+    simp (le-ltb (terc4Number x) 16 (omega (arith, e, c .if2 .taken)))
+
+returns-3 : tie.Need-returns-3
+returns-3 c =
+    let x : ℕ = c .before .before .before .args .symbol .0 in
+    let e = number-at (c .before .numbers .result) x (c .before .numbers .ensures) (c .before .before .if1 .left) in
+    simp (lt-ltb (terc4Number x) 16 (omega (arith, e, number-le x, c .if2 .left))) (ap Number e)
 
 pub read-spec : {M : Type 1} → statement M
-read-spec = tie.close (tie.spec cast-number-in number-in-requires returns cast-t8 returns-2)
+read-spec = tie.close (tie.spec returns numbers-requires cast-n array-read-n returns-2 returns-3)

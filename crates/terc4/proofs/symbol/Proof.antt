@@ -1,8 +1,6 @@
 -- `terc4::symbol` meets its contract.
-use mathlib.Core.Path.{_≡_, ap, _∙_}
 use borrow.Author.Tests.{lt-ltb, le-ltb}
 use borrow.Author.Needs.{needs}
-use Rattle.laws.proofs.Tables.{made-at}
 use Rattle.hdmi.specs.Terc4.{terc4}
 use Rattle.terc4.proofs.symbol.Statement.{statement}
 use Rattle.terc4.proofs.symbol.Tie as tie
