@@ -1,2 +1,3 @@
 pub mod Choices
 pub mod Deciding
+pub mod Edges

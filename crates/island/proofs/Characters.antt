@@ -39,7 +39,7 @@ transposed-bit v k h =
     (eqb→eq (sources steps k) (transposed k) (and-right (orderly 32 steps k) (eqb (sources steps k) (transposed k)) t))
 
 -- by pairs: pair s of byte j comes from pair j of byte s
-transposed-pair : (j s o : ℕ) → s < 4 → o < 2 → transposed (8 * j + (2 * s + o)) ≡ 8 * s + (2 * j + o)
+pub transposed-pair : (j s o : ℕ) → s < 4 → o < 2 → transposed (8 * j + (2 * s + o)) ≡ 8 * s + (2 * j + o)
 transposed-pair j s o hs ho =
     let k : ℕ = 8 * j + (2 * s + o) in
     let a : k / 8 ≡ j = omega arith in

@@ -14,8 +14,8 @@ ghost use Rattle.island.specs.Words.{transposed, Bytes, Pairs, Header, w
 use refusal::Refusal;
 use refusal::Verdict;
 
-// The transposition of four bytes of four bit pairs each.
-fn transpose(v: u32) -> u32
+// The transposition of four bytes of four bit pairs each: pair s of byte j changes places with pair j of byte s. Done twice, it undoes itself.
+pub fn transpose(v: u32) -> u32
     ensures { λ r. ⌜ ((k : ℕ) → k < 32 → bit k r ≡ bit (transposed k) v) ⌝ }
 {
     let t = (v ^ (v >> 6)) & 0xcc00cc;

@@ -7,6 +7,7 @@ pub mod Finite
 pub mod Fronts
 pub mod Integers
 pub mod Linear
+pub mod Runs
 pub mod Searching
 pub mod Spines
 pub mod Stores

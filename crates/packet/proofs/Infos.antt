@@ -6,12 +6,7 @@ use native.Mathlib.Omega.{arith}
 use lib.ListN.{replicate, take, drop}
 use Rattle.hdmi.specs.Parity.{parity, sent, withParity}
 use Rattle.hdmi.specs.Info.{sum, infoBytes, infoFrame}
-use Rattle.packet.proofs.Laying.{header-with, joined-packet}
-
--- zeros have the parity byte 0
-pub zero-block : replicate 8 0 ≡ withParity (replicate 7 0)
-unfolding withParity parity sent
-zero-block = refl
+use Rattle.blocks.proofs.Laying.{zero-block, header-with, joined-packet}
 
 module _ (kind version size check a b c d : ℕ) where
   abbrev h : List ℕ

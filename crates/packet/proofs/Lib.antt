@@ -1,5 +1,3 @@
-pub mod Counts
+pub mod Edges
 pub mod Fields
 pub mod Infos
-pub mod Laying
-pub mod Samples

@@ -1,13 +1,11 @@
 -- What each builder asks of its arguments, in the order of the refusals.
 use mathlib.Core.Bool.{Bool, true, _&&_}
-use mathlib.Core.List.{List, [], _∷_}
-use Prim.Native.Nat.{ℕ, _%_, _^_}
-use lib.Dec.{eqb, leb, ltb}
-use lib.IntN.{ℤ, pos}
-use lib.ListN.{length}
-use Rattle.laws.specs.Range.{between}
-use Rattle.refusal.specs.declared.Refusal.the-variants.{Length, Unlisted, FrameCount, ClockValue}
+use mathlib.Core.List.{List, [], _∷_, _++_}
+use Prim.Native.Nat.{ℕ, _^_}
+use lib.Dec.{ltb}
+use Rattle.refusal.specs.declared.Refusal.the-variants.{Unlisted, ClockValue}
 use Rattle.refusal.specs.Verdict.{Ask, ask}
+use Rattle.blocks.specs.Asks.{packetAsks}
 use Rattle.fields.specs.Numbers.{oneOf}
 use Rattle.fields.specs.ScanInfo.{scanNumbers}
 use Rattle.fields.specs.PixelFormat.{pixelNumbers}
@@ -17,19 +15,9 @@ use Rattle.fields.specs.ActiveFormatAspectRatio.{activeNumbers}
 use Rattle.fields.specs.QuantizationRange.{quantizationNumbers}
 use Rattle.fields.specs.VideoCode.{codeNumbers}
 
--- the packet that is lent has its 36 bytes
-abbrev pub packetAsk : List ℕ → Ask
-packetAsk p = ask (eqb (length p) 36) Length
-
--- no, one, two, three or four frames, left and right each; a count within the block
-abbrev pub audioAsks : List ℕ → List ℤ → ℤ → List Ask
-audioAsks p samples count =
-    packetAsk p ∷ ask (leb (length samples) 8) Length ∷ ask (eqb (length samples % 2) 0) Length
-    ∷ ask (between (pos 0) (pos 191) count) FrameCount ∷ []
-
 -- CTS and N have 20 bits
 abbrev pub clockAsks : List ℕ → ℕ → ℕ → List Ask
-clockAsks p cts n = packetAsk p ∷ ask (ltb cts (2 ^ 20)) ClockValue ∷ ask (ltb n (2 ^ 20)) ClockValue ∷ []
+clockAsks p cts n = packetAsks p ++ (ask (ltb cts (2 ^ 20)) ClockValue ∷ ask (ltb n (2 ^ 20)) ClockValue ∷ [])
 
 abbrev pub every : List Bool → Bool
 every [] = true
@@ -42,4 +30,4 @@ aviTests s y c m r q v =
     ∷ oneOf q quantizationNumbers ∷ oneOf v codeNumbers ∷ []
 
 abbrev pub aviAsks : List ℕ → (s y c m r q v : ℕ) → List Ask
-aviAsks p s y c m r q v = packetAsk p ∷ ask (every (aviTests s y c m r q v)) Unlisted ∷ []
+aviAsks p s y c m r q v = packetAsks p ++ (ask (every (aviTests s y c m r q v)) Unlisted ∷ [])

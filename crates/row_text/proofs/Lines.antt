@@ -6,7 +6,7 @@ use native.Mathlib.Numerals.{add-one}
 use native.Mathlib.Omega.{arith}
 use lib.ListN.{length, take, drop, getD, drop-of-length-le}
 use lib.Seq.{sets, drop-cons, take-all}
-use Rattle.laws.proofs.Stores.{take-sets}
+use Rattle.laws.proofs.Runs.{take-sets}
 use Rattle.row_text.specs.Text.{digitOf, lineOf, textOf}
 
 pub one-line-more : (ss out : List ℕ) (i : ℕ) → i < length ss → 4 * i + 4 ≤ length out

@@ -1,1 +1,188 @@
-fn main() {}
+//! The original beside ours at scale: the same inputs, every output compared; and beyond the original's domain every damaged input gets its
+//! refusal and changes nothing. A differing input is printed; the exit status says whether all agreed.
+use chaffrail::Kind;
+use compare::dvi::data_island::*;
+use compare::dvi::tmds::TmdsPair;
+use compare::{original_encode, Random};
+use std::fmt::Debug;
+use std::process::ExitCode;
+
+/// Counts comparisons, and prints the first difference of each kind. Inputs come smallest first.
+#[derive(Default)]
+struct Tally {
+    compared: u64,
+    wrong: u64,
+    seen: Vec<&'static str>,
+}
+
+impl Tally {
+    fn same<T: PartialEq + Debug>(&mut self, what: &'static str, input: impl Debug, theirs: T, ours: T) {
+        self.compared += 1;
+        if theirs != ours {
+            self.wrong += 1;
+            if !self.seen.contains(&what) {
+                self.seen.push(what);
+                println!("{what} at {input:?}: {theirs:?} is right, {ours:?} was answered");
+            }
+        }
+    }
+
+    /// Every element is a comparison.
+    fn all<T: PartialEq + Debug>(&mut self, what: &'static str, input: impl Debug, theirs: &[T], ours: &[T]) {
+        if theirs == ours {
+            self.compared += theirs.len() as u64;
+        } else {
+            self.same(what, input, theirs, ours);
+        }
+    }
+}
+
+fn refused<T>(answer: Result<T, chaffrail::Refusal>) -> Option<(Kind, u32)> {
+    answer.err().map(|r| (r.kind, r.place))
+}
+
+fn symbols(t: &mut Tally) {
+    let mut byte_of = [None; 65536];
+    for d in -4..=4 {
+        for byte in 0..=255 {
+            let theirs = original_encode(d, byte);
+            byte_of[theirs.0 as usize] = Some(byte);
+            t.same("symbol", (d, byte), Ok(theirs), chaffrail::encode_symbol(d, byte));
+        }
+    }
+    for d in [-5, 5, i32::MIN, i32::MAX] {
+        t.same("discrepancy out of range", d, Some((Kind::Discrepancy, 0)), refused(chaffrail::encode_symbol(d, 0)));
+    }
+    for symbol in 0..=65535u16 {
+        match byte_of[symbol as usize] {
+            Some(byte) => t.same("read symbol", symbol, Ok(byte), chaffrail::read_symbol(symbol)),
+            None => t.same("read symbol", symbol, Some((Kind::NotData, 0)), refused(chaffrail::read_symbol(symbol))),
+        }
+    }
+}
+
+fn pairs(t: &mut Tally) {
+    for b0 in 0..=255 {
+        for b1 in 0..=255 {
+            let (pair, end) = TmdsPair::encode_pair_discrepancy(b0, b1);
+            t.same("pair and its end", (b0, b1), (pair.raw(), end), chaffrail::encode_pair_discrepancy(b0, b1));
+            match end {
+                0 => t.same("pair", (b0, b1), Ok(pair.raw()), chaffrail::encode_pair(b0, b1)),
+                _ => t.same("pair off balance", (b0, b1), Some((Kind::Unbalanced, 0)), refused(chaffrail::encode_pair(b0, b1))),
+            }
+        }
+        t.same("balanced pair", b0, Ok(TmdsPair::encode_balanced_approx(b0).raw()), chaffrail::encode_balanced_approx(b0));
+    }
+    for (a, b) in [(0, 0), (1023, 1023), (1, 1023), (1023, 0)] {
+        t.same("joined", (a, b), Ok(a as u32 | (b as u32) << 10), chaffrail::join_symbols(a, b));
+    }
+    for (a, b) in [(1024, 0), (0, 1024), (65535, 65535)] {
+        t.same("not joined", (a, b), Some((Kind::Unlisted, 0)), refused(chaffrail::join_symbols(a, b)));
+    }
+}
+
+fn original_row(mut d: i32, bytes: &[u8], out: &mut [u8]) -> i32 {
+    for (i, &b) in bytes.iter().enumerate() {
+        let (symbol, end) = original_encode(d, b);
+        out[2 * i..2 * i + 2].copy_from_slice(&symbol.to_le_bytes());
+        d = end;
+    }
+    d
+}
+
+fn rows(t: &mut Tally, random: &mut Random) {
+    for n in 0..3000 {
+        let len = if n < 600 { n } else { random.below(4097) as usize };
+        let mut bytes = vec![0; len];
+        random.fill(&mut bytes);
+        let d = random.below(9) as i32 - 4;
+        let (mut theirs, mut ours) = (vec![0; 2 * len], vec![0xaa; 2 * len]);
+        let end = original_row(d, &bytes, &mut theirs);
+        t.same("row's end", (d, &bytes), Ok(end), chaffrail::encode_row(d, &bytes, &mut ours));
+        t.all("row", (d, &bytes), &theirs, &ours);
+        let mut back = vec![0x55; len];
+        t.same("row read", &theirs, Ok(()), chaffrail::read_row(&theirs, &mut back));
+        t.all("row read back", &theirs, &bytes, &back);
+        damaged_row(t, random, d, &bytes, &theirs);
+    }
+}
+
+/// Wrong lengths, a discrepancy out of range and a symbol that is none: refused, with the buffer as it was.
+fn damaged_row(t: &mut Tally, random: &mut Random, d: i32, bytes: &[u8], symbols: &[u8]) {
+    for room in [symbols.len() + 1, symbols.len() + 2, symbols.len().wrapping_sub(1), 0] {
+        if room == symbols.len() || room > 9000 {
+            continue;
+        }
+        let mut out = vec![0x33; room];
+        t.same("row's room", (bytes.len(), room), Some((Kind::Length, 0)), refused(chaffrail::encode_row(d, bytes, &mut out)));
+        t.all("row's room untouched", room, &vec![0x33; room], &out);
+    }
+    let mut out = vec![0x33; symbols.len()];
+    let off = if random.below(2) == 0 { 5 + random.below(1000) as i32 } else { -5 - random.below(1000) as i32 };
+    t.same("row's discrepancy", off, Some((Kind::Discrepancy, 0)), refused(chaffrail::encode_row(off, bytes, &mut out)));
+    t.all("row refused, untouched", off, &vec![0x33; symbols.len()], &out);
+    if bytes.is_empty() {
+        return;
+    }
+    let at = random.below(bytes.len() as u64) as usize;
+    let mut broken = symbols.to_vec();
+    broken[2 * at..2 * at + 2].copy_from_slice(&0x354u16.to_le_bytes());
+    let mut back = vec![0x33; bytes.len()];
+    t.same("row with a control symbol", at, Some((Kind::NotData, at as u32)), refused(chaffrail::read_row(&broken, &mut back)));
+    t.all("row with a control symbol, untouched", at, &vec![0x33; bytes.len()], &back);
+    let mut short = vec![0x33; bytes.len() - 1];
+    t.same("read row's room", at, Some((Kind::Length, 0)), refused(chaffrail::read_row(symbols, &mut short)));
+    t.same("odd bytes", at, Some((Kind::Length, 0)), refused(chaffrail::read_row(&symbols[1..], &mut back)));
+}
+
+fn long_rows(t: &mut Tally) {
+    let bytes = vec![0; 4097];
+    let mut out = vec![0x33; 8194];
+    t.same("row of 4,097", 4097, Some((Kind::Length, 0)), refused(chaffrail::encode_row(0, &bytes, &mut out)));
+    t.all("row of 4,097, untouched", 4097, &vec![0x33; 8194], &out);
+    let mut back = vec![0x33; 4097];
+    t.same("reading 4,097", 4097, Some((Kind::Length, 0)), refused(chaffrail::read_row(&out, &mut back)));
+}
+
+fn parities(t: &mut Tally, random: &mut Random) {
+    for x in 0..=255 {
+        t.same("parity of one byte", x, parity(&[x]), chaffrail::parity(&[x]));
+    }
+    for n in 0..200_000 {
+        let mut block = vec![0; if n < 40 { n } else { random.below(40) as usize }];
+        random.fill(&mut block);
+        t.same("parity", &block, parity(&block), chaffrail::parity(&block));
+    }
+}
+
+fn terc4(t: &mut Tally) {
+    for n in 0..=255u8 {
+        match TERC4_SYMBOLS.get(n as usize) {
+            Some(&s) => t.same("TERC4", n, Ok(s), chaffrail::terc4_symbol(n)),
+            None => t.same("TERC4", n, Some((Kind::Unlisted, 0)), refused(chaffrail::terc4_symbol(n))),
+        }
+    }
+    for symbol in 0..=65535u16 {
+        match TERC4_SYMBOLS.iter().position(|&s| s == symbol) {
+            Some(n) => t.same("TERC4 read", symbol, Ok(n as u8), chaffrail::read_terc4(symbol)),
+            None => t.same("TERC4 read", symbol, Some((Kind::NotTerc4, 0)), refused(chaffrail::read_terc4(symbol))),
+        }
+    }
+}
+
+fn main() -> ExitCode {
+    let mut t = Tally::default();
+    let mut random = Random::new(0xfeed_beef_1234_5671);
+    symbols(&mut t);
+    pairs(&mut t);
+    rows(&mut t, &mut random);
+    long_rows(&mut t);
+    parities(&mut t, &mut random);
+    terc4(&mut t);
+    println!("compared: {}, different: {}", t.compared, t.wrong);
+    if t.wrong == 0 {
+        ExitCode::SUCCESS
+    } else {
+        ExitCode::FAILURE
+    }
+}

@@ -3,7 +3,10 @@ use mathlib.Core.Path.{_≡_, _∙_}
 use mathlib.Core.List.{[], _∷_}
 use Prim.Native.Nat.{ℕ, _+_}
 use native.Mathlib.Omega.{arith}
+use denote.Ref.{now}
 use borrow.Author.Needs.{needs}
+use borrow.Author.Tests.{eq-eqb}
+use lib.ListN.{length}
 use Rattle.hdmi.specs.Info.{sum}
 use Rattle.packet.proofs.Infos.{info-joined}
 use Rattle.packet.proofs.info.Statement.{statement}
@@ -33,8 +36,8 @@ sub-checksum c = search needs
 cast-checksum : tie.Need-cast-checksum
 cast-checksum c = search needs
 
-with-parity-requires : tie.Need-with-parity-requires
-with-parity-requires c κs = search needs
+subpacket-requires : tie.Need-subpacket-requires
+subpacket-requires c κs = search needs
 
 join-requires : tie.Need-join-requires
 join-requires c κs = search needs
@@ -45,12 +48,13 @@ same-length c = search needs
 returns : tie.Need-returns
 returns c =
     let k = c .before .before in
-    let start = k .before .before .before .before in
+    let b = k .before .before in
+    let start = b .before .before in
     let x = start .args in
     let total : ℕ = x .kind + x .version + x .size + x .a + x .b + x .c + x .d in
     let order : total ≡ sum (x .kind ∷ x .version ∷ x .size ∷ x .a ∷ x .b ∷ x .c ∷ x .d ∷ []) = omega arith in
-    k .join .ensures
-    ∙ info-joined (x .kind) (x .version) (x .size) (x .check) (x .a) (x .b) (x .c) (x .d) total (k .before .with-parity .result) (start .pre .1) order (k .before .with-parity .ensures)
+    let joined = rw (eq-eqb (length (now (x .packet))) 36 (start .pre .0)) at (k .join .ensures .1) in
+    joined ∙ info-joined (x .kind) (x .version) (x .size) (x .check) (x .a) (x .b) (x .c) (x .d) total (b .subpacket .result) (start .pre .1) order (b .subpacket .ensures)
 
 pub info-spec : {M : Type 1} → statement M
 info-spec =
@@ -64,7 +68,7 @@ info-spec =
     add-sum-6
     sub-checksum
     cast-checksum
-    with-parity-requires
+    subpacket-requires
     join-requires
     same-length
     returns)

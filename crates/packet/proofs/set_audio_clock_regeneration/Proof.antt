@@ -7,7 +7,7 @@ use borrow.Author.Tests.{eq-eqb, ne-eqb, lt-ltb, le-ltb}
 use lib.ListN.{length}
 use Rattle.hdmi.specs.Clock.{clockBytes}
 use Rattle.hdmi.proofs.Figures.{header-1-0-0}
-use Rattle.packet.proofs.Laying.{header-with, joined-packet}
+use Rattle.blocks.proofs.Laying.{header-with, joined-packet}
 use Rattle.packet.proofs.set_audio_clock_regeneration.Statement.{statement}
 use Rattle.packet.proofs.set_audio_clock_regeneration.Tie as tie
 
@@ -24,26 +24,26 @@ returns-3 c =
     let a = c .before .before .before .before .args in
     rw (eq-eqb (length (now (a .packet))) 36 (c .before .before .if1 .left), lt-ltb (a .cts) 1048576 (c .before .if2 .left), le-ltb (a .n) 1048576 (c .if3 .taken)) (refl, refl)
 
-cast-t12 : tie.Need-cast-t12
-cast-t12 c = search needs
+cast-subpacket : tie.Need-cast-subpacket
+cast-subpacket c = search needs
 
-cast-t15 : tie.Need-cast-t15
-cast-t15 c = search needs
+cast-subpacket-2 : tie.Need-cast-subpacket-2
+cast-subpacket-2 c = search needs
 
-cast-t17 : tie.Need-cast-t17
-cast-t17 c = search needs
+cast-subpacket-3 : tie.Need-cast-subpacket-3
+cast-subpacket-3 c = search needs
 
-cast-t19 : tie.Need-cast-t19
-cast-t19 c = search needs
+cast-subpacket-4 : tie.Need-cast-subpacket-4
+cast-subpacket-4 c = search needs
 
-cast-t22 : tie.Need-cast-t22
-cast-t22 c = search needs
+cast-subpacket-5 : tie.Need-cast-subpacket-5
+cast-subpacket-5 c = search needs
 
-cast-t24 : tie.Need-cast-t24
-cast-t24 c = search needs
+cast-subpacket-6 : tie.Need-cast-subpacket-6
+cast-subpacket-6 c = search needs
 
-with-parity-requires : tie.Need-with-parity-requires
-with-parity-requires c κs = search needs
+subpacket-requires : tie.Need-subpacket-requires
+subpacket-requires c κs = search needs
 
 join-requires : tie.Need-join-requires
 join-requires c κs = search needs
@@ -53,11 +53,15 @@ same-length c = search needs
 
 returns-4 : tie.Need-returns-4
 returns-4 c =
-    let k = c .before .before .before .before in
-    let a = k .before .before .before .before .before .args in
-    let block = k .with-parity .ensures in
-    rw (eq-eqb (length (now (a .packet))) 36 (k .before .before .before .if1 .left), lt-ltb (a .cts) 1048576 (k .before .before .if2 .left), lt-ltb (a .n) 1048576 (k .before .if3 .left))
-    (refl, c .before .before .join .ensures ∙ joined-packet (1 ∷ 0 ∷ 0 ∷ []) (λ s. clockBytes (a .cts) (a .n)) (header-with (1 ∷ 0 ∷ 0 ∷ []) 0x4a header-1-0-0) block block block block)
+    let k = c .before .before in
+    let b = k .before .before in
+    let e = b .before in
+    let a = e .before .before .before .before .args in
+    let block = b .subpacket .ensures in
+    let long = eq-eqb (length (now (a .packet))) 36 (e .before .before .if1 .left) in
+    let joined = rw long at (k .join .ensures) in
+    rw (long, lt-ltb (a .cts) 1048576 (e .before .if2 .left), lt-ltb (a .n) 1048576 (e .if3 .left))
+    (joined .0, joined .1 ∙ joined-packet (1 ∷ 0 ∷ 0 ∷ []) (λ s. clockBytes (a .cts) (a .n)) (header-with (1 ∷ 0 ∷ 0 ∷ []) 0x4a header-1-0-0) block block block block)
 
 pub set-audio-clock-regeneration-spec : {M : Type 1} → statement M
 set-audio-clock-regeneration-spec =
@@ -66,13 +70,13 @@ set-audio-clock-regeneration-spec =
     returns
     returns-2
     returns-3
-    cast-t12
-    cast-t15
-    cast-t17
-    cast-t19
-    cast-t22
-    cast-t24
-    with-parity-requires
+    cast-subpacket
+    cast-subpacket-2
+    cast-subpacket-3
+    cast-subpacket-4
+    cast-subpacket-5
+    cast-subpacket-6
+    subpacket-requires
     join-requires
     same-length
     returns-4)

@@ -1,0 +1,3 @@
+pub mod Counts
+pub mod Edges
+pub mod Samples

@@ -1,0 +1,4 @@
+pub mod Exact
+pub mod Found
+pub mod Numbers
+pub mod Read

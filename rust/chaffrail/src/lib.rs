@@ -1,0 +1,228 @@
+//! Chaffrail's proved functions for HDMI, as safe Rust.
+//!
+//! Every input gets an answer. A refused call changes nothing that it was lent.
+//!
+//! ```
+//! // A row in two pieces: the discrepancy that the first leaves is where the second begins.
+//! let mut symbols = [0; 4];
+//! let d = chaffrail::encode_row(0, &[0x00, 0x00], &mut symbols)?;
+//! assert_eq!(symbols, [0x00, 0x01, 0xff, 0x03]); // 0x100 and 0x3ff, low byte first
+//! let mut bytes = [0; 2];
+//! chaffrail::read_row(&symbols, &mut bytes)?;
+//! assert_eq!((bytes, d), ([0x00, 0x00], 1));
+//! # Ok::<(), chaffrail::Refusal>(())
+//! ```
+
+pub mod raw;
+
+pub use raw::Answer;
+
+/// Why a call was refused: the number of the table in `include/chaffrail.h`, and where.
+#[derive(Clone, Copy, Debug, PartialEq, Eq)]
+pub struct Refusal {
+    pub kind: Kind,
+    /// An index or a subpacket; 0 where the kind has no place.
+    pub place: u32,
+}
+
+/// The seventeen refusals.
+#[derive(Clone, Copy, Debug, PartialEq, Eq)]
+#[repr(u32)]
+pub enum Kind {
+    Length = 1,
+    Discrepancy,
+    SyncPair,
+    Unlisted,
+    FrameCount,
+    ClockValue,
+    TimingRange,
+    LineCounter,
+    LineOffset,
+    Unbalanced,
+    NotData,
+    HighBits,
+    GuardWord,
+    NotTerc4,
+    SyncBits,
+    HeaderParity,
+    SubpacketParity,
+}
+
+const KINDS: [Kind; 17] = [
+    Kind::Length,
+    Kind::Discrepancy,
+    Kind::SyncPair,
+    Kind::Unlisted,
+    Kind::FrameCount,
+    Kind::ClockValue,
+    Kind::TimingRange,
+    Kind::LineCounter,
+    Kind::LineOffset,
+    Kind::Unbalanced,
+    Kind::NotData,
+    Kind::HighBits,
+    Kind::GuardWord,
+    Kind::NotTerc4,
+    Kind::SyncBits,
+    Kind::HeaderParity,
+    Kind::SubpacketParity,
+];
+
+impl std::fmt::Display for Refusal {
+    fn fmt(&self, f: &mut std::fmt::Formatter<'_>) -> std::fmt::Result {
+        write!(f, "refused with {} ({:?}) at {}", self.kind as u32, self.kind, self.place)
+    }
+}
+
+impl std::error::Error for Refusal {}
+
+fn told(a: Answer) -> Result<Answer, Refusal> {
+    match a.refusal {
+        0 => Ok(a),
+        n => Err(Refusal { kind: KINDS[n as usize - 1], place: a.place }),
+    }
+}
+
+/// The symbol of a byte on a lane that stands at this discrepancy, and the discrepancy after it.
+///
+/// ```
+/// assert_eq!(chaffrail::encode_symbol(0, 0x10), Ok((0x1f0, 0)));
+/// assert_eq!(chaffrail::encode_symbol(5, 0x10).unwrap_err().kind, chaffrail::Kind::Discrepancy);
+/// ```
+pub fn encode_symbol(discrepancy: i32, byte: u8) -> Result<(u16, i32), Refusal> {
+    told(unsafe { raw::chaffrail_encode_symbol(discrepancy, byte) }).map(|a| (a.value as u16, a.carry))
+}
+
+/// The byte of a data symbol.
+///
+/// ```
+/// assert_eq!(chaffrail::read_symbol(0x3ff), Ok(0));
+/// assert_eq!(chaffrail::read_symbol(0x354).unwrap_err().kind, chaffrail::Kind::NotData);
+/// ```
+pub fn read_symbol(symbol: u16) -> Result<u8, Refusal> {
+    told(unsafe { raw::chaffrail_read_symbol(symbol) }).map(|a| a.value as u8)
+}
+
+/// Two symbols in a word, the first in bits 0..9.
+pub fn join_symbols(first: u16, second: u16) -> Result<u32, Refusal> {
+    told(unsafe { raw::chaffrail_join_symbols(first, second) }).map(|a| a.value)
+}
+
+/// The word of two bytes that leave a lane where it stood.
+pub fn encode_pair(b0: u8, b1: u8) -> Result<u32, Refusal> {
+    told(unsafe { raw::chaffrail_encode_pair(b0, b1) }).map(|a| a.value)
+}
+
+/// The word of two bytes on a lane that stands at 0, and where they leave it.
+pub fn encode_pair_discrepancy(b0: u8, b1: u8) -> (u32, i32) {
+    let a = unsafe { raw::chaffrail_encode_pair_discrepancy(b0, b1) };
+    (a.value, a.carry)
+}
+
+/// The word of a byte and of the byte that differs in its lowest bit.
+///
+/// ```
+/// assert_eq!(chaffrail::encode_balanced_approx(0), Ok(0x7fd00));
+/// ```
+pub fn encode_balanced_approx(byte: u8) -> Result<u32, Refusal> {
+    told(unsafe { raw::chaffrail_encode_balanced_approx(byte) }).map(|a| a.value)
+}
+
+/// The symbols of a row, or of a piece of one, two bytes each, low byte first; answers the discrepancy after it. At most 4,096 bytes a call.
+pub fn encode_row(discrepancy: i32, bytes: &[u8], symbols: &mut [u8]) -> Result<i32, Refusal> {
+    told(unsafe { raw::chaffrail_encode_row(discrepancy, bytes.as_ptr(), bytes.len(), symbols.as_mut_ptr(), symbols.len()) }).map(|a| a.carry)
+}
+
+/// The bytes of a row of symbols. Nothing is written where one of them is no data symbol.
+///
+/// ```
+/// let mut bytes = [7; 2];
+/// let refused = chaffrail::read_row(&[0x00, 0x01, 0x54, 0x03], &mut bytes).unwrap_err();
+/// assert_eq!((refused.kind, refused.place, bytes), (chaffrail::Kind::NotData, 1, [7; 2]));
+/// ```
+pub fn read_row(symbols: &[u8], bytes: &mut [u8]) -> Result<(), Refusal> {
+    told(unsafe { raw::chaffrail_read_row(symbols.as_ptr(), symbols.len(), bytes.as_mut_ptr(), bytes.len()) }).map(|_| ())
+}
+
+/// The parity byte of a block of any length.
+///
+/// ```
+/// assert_eq!(chaffrail::parity(&[1, 0, 0]), 0x4a);
+/// ```
+pub fn parity(block: &[u8]) -> u8 {
+    unsafe { raw::chaffrail_parity(block.as_ptr(), block.len()) }.value as u8
+}
+
+/// TERC4 of a number below 16.
+pub fn terc4_symbol(number: u8) -> Result<u16, Refusal> {
+    told(unsafe { raw::chaffrail_terc4_symbol(number) }).map(|a| a.value as u16)
+}
+
+/// The number of a TERC4 symbol.
+///
+/// ```
+/// assert_eq!(chaffrail::terc4_symbol(15).and_then(chaffrail::read_terc4), Ok(15));
+/// ```
+pub fn read_terc4(symbol: u16) -> Result<u8, Refusal> {
+    told(unsafe { raw::chaffrail_read_terc4(symbol) }).map(|a| a.value as u8)
+}
+
+/// Audio clock regeneration: CTS and N have 20 bits. A packet is 36 bytes.
+///
+/// ```
+/// let mut packet = [0; 36];
+/// chaffrail::set_audio_clock_regeneration(&mut packet, 25200, 6144)?;
+/// assert_eq!(packet[..4], [1, 0, 0, 0x4a]);
+/// # Ok::<(), chaffrail::Refusal>(())
+/// ```
+pub fn set_audio_clock_regeneration(packet: &mut [u8], cts: u32, n: u32) -> Result<(), Refusal> {
+    told(unsafe { raw::chaffrail_set_audio_clock_regeneration(packet.as_mut_ptr(), packet.len(), cts, n) }).map(|_| ())
+}
+
+/// Audio info: two channels of 16 bits at this rate.
+pub fn set_audio_info_frame(packet: &mut [u8], rate: u32) -> Result<(), Refusal> {
+    told(unsafe { raw::chaffrail_set_audio_info_frame(packet.as_mut_ptr(), packet.len(), rate) }).map(|_| ())
+}
+
+/// The fields of an AVI info frame, by their numbers in CEA-861-D.
+#[derive(Clone, Copy, Debug, Default, PartialEq, Eq)]
+pub struct Avi {
+    pub scan: u32,
+    pub pixel_format: u32,
+    pub colorimetry: u32,
+    pub picture_aspect: u32,
+    pub active_aspect: u32,
+    pub quantization: u32,
+    pub video_code: u32,
+}
+
+/// AVI info from the numbers of its fields.
+///
+/// ```
+/// let mut packet = [0; 36];
+/// let avi = chaffrail::Avi { active_aspect: 8, picture_aspect: 1, video_code: 1, ..Default::default() };
+/// chaffrail::set_avi_info_frame(&mut packet, avi)?;
+/// assert_eq!(packet[4], 0x46);
+/// # Ok::<(), chaffrail::Refusal>(())
+/// ```
+pub fn set_avi_info_frame(packet: &mut [u8], f: Avi) -> Result<(), Refusal> {
+    told(unsafe {
+        raw::chaffrail_set_avi_info_frame(
+            packet.as_mut_ptr(),
+            packet.len(),
+            f.scan,
+            f.pixel_format,
+            f.colorimetry,
+            f.picture_aspect,
+            f.active_aspect,
+            f.quantization,
+            f.video_code,
+        )
+    })
+    .map(|_| ())
+}
+
+/// The 36 words of an island with one packet, four bytes each, low byte first.
+pub fn encode_island(hv: u8, packet: &[u8], words: &mut [u8]) -> Result<(), Refusal> {
+    told(unsafe { raw::chaffrail_encode_island(hv, packet.as_ptr(), packet.len(), words.as_mut_ptr(), words.len()) }).map(|_| ())
+}

@@ -1,0 +1,30 @@
+//! The C functions as include/chaffrail.h declares them.
+
+/// What every function answers.
+#[repr(C)]
+#[derive(Clone, Copy, Debug, PartialEq, Eq)]
+pub struct Answer {
+    pub refusal: u32,
+    pub place: u32,
+    pub value: u32,
+    pub carry: i32,
+}
+
+extern "C" {
+    pub fn chaffrail_encode_symbol(discrepancy: i32, byte: u8) -> Answer;
+    pub fn chaffrail_read_symbol(symbol: u16) -> Answer;
+    pub fn chaffrail_join_symbols(first: u16, second: u16) -> Answer;
+    pub fn chaffrail_encode_pair(b0: u8, b1: u8) -> Answer;
+    pub fn chaffrail_encode_pair_discrepancy(b0: u8, b1: u8) -> Answer;
+    pub fn chaffrail_encode_balanced_approx(byte: u8) -> Answer;
+    pub fn chaffrail_encode_row(discrepancy: i32, bytes: *const u8, bytes_len: usize, symbols: *mut u8, symbols_len: usize) -> Answer;
+    pub fn chaffrail_read_row(symbols: *const u8, symbols_len: usize, bytes: *mut u8, bytes_len: usize) -> Answer;
+    pub fn chaffrail_parity(block: *const u8, block_len: usize) -> Answer;
+    pub fn chaffrail_terc4_symbol(number: u8) -> Answer;
+    pub fn chaffrail_read_terc4(symbol: u16) -> Answer;
+    pub fn chaffrail_set_audio_clock_regeneration(packet: *mut u8, packet_len: usize, cts: u32, n: u32) -> Answer;
+    pub fn chaffrail_set_audio_info_frame(packet: *mut u8, packet_len: usize, rate: u32) -> Answer;
+    #[allow(clippy::too_many_arguments)]
+    pub fn chaffrail_set_avi_info_frame(packet: *mut u8, packet_len: usize, s: u32, y: u32, c: u32, m: u32, r: u32, q: u32, v: u32) -> Answer;
+    pub fn chaffrail_encode_island(hv: u8, packet: *const u8, packet_len: usize, words: *mut u8, words_len: usize) -> Answer;
+}
