@@ -196,7 +196,11 @@ pub extern "C" fn chaffrail_read_terc4(symbol: u16) -> Answer
 // ---- packets of 36 bytes
 
 #[no_mangle]
-pub extern "C" fn chaffrail_set_audio_clock_regeneration(packet: &mut [u8], cts: u32, n: u32) -> Answer
+pub extern "C" fn chaffrail_set_audio_clock_regeneration(
+    packet: &mut [u8],
+    cts: u32,
+    n: u32,
+) -> Answer
     ensures { λ r. ⌜ (r ≡ told (verdict (clockAsks (now (packet .entry)) cts n))) × (now (packet .exit) ≡ kept (verdict (clockAsks (now (packet .entry)) cts n)) (clockPacket cts n) (now (packet .entry))) ⌝ }
 {
     answer_told(packet::set_audio_clock_regeneration(packet, cts, n))
