@@ -8,12 +8,12 @@ use lib.Dec.{eqb}
 use Rattle.dvi.specs.Control.{level, pairOf}
 use Rattle.hdmi.specs.Island.{island}
 use Rattle.hdmi.proofs.Once.{pair-once}
+use Rattle.hdmi.proofs.Period.{level-lt, pair-lt}
 use Rattle.refusal.specs.declared.Verdict.the-variants.{Fine}
 use Rattle.refusal.specs.Verdict.{verdict}
 use Rattle.timing.specs.declared.DviTiming.{DviTiming}
 use Rattle.timing.specs.Sync.{levelOf, positive, pairFor}
 use Rattle.timing.specs.Timing.{timingAsks}
-use Rattle.timing.proofs.Levels.{level-lt, pair-lt}
 use Rattle.timing.proofs.Ranges.{accepted}
 
 level-once : (a b : Bool) → level a ≡ level b → a ≡ b

@@ -5,7 +5,8 @@ use Prim.Native.Nat.{ℕ}
 use native.Mathlib.Omega.{arith}
 use Rattle.hdmi.specs.Period.{controlWord}
 use Rattle.symbol.specs.declared.TmdsSymbol.{TmdsSymbol}
-use Rattle.timing.proofs.Levels.{control-lt}
+use Rattle.dvi.specs.Control.{pairOf}
+use Rattle.hdmi.proofs.Period.{control-lt, pair-lt}
 use borrow.Author.Needs.{needs}
 use Rattle.timing.proofs.control_lanes.Statement.{statement}
 use Rattle.timing.proofs.control_lanes.Tie as tie
@@ -41,7 +42,7 @@ cast-t12 c = search needs
 mul-t13 : tie.Need-mul-t13
 mul-t13 c =
     let a = c .before .before .before .before .before .before .args in
-    omega (arith, ap raw (c .before .before .before .control3 .ensures), control-lt (a .ctl2) false)
+    omega (arith, ap raw (c .before .before .before .control3 .ensures), control-lt (pairOf (a .ctl2) false) (pair-lt (a .ctl2) false))
 
 add-t14 : tie.Need-add-t14
 add-t14 c =
@@ -49,11 +50,11 @@ add-t14 c =
     omega (
       arith,
       ap raw (c .before .before .before .before .before .control .ensures),
-      control-lt (a .h) (a .v),
+      control-lt (pairOf (a .h) (a .v)) (pair-lt (a .h) (a .v)),
       ap raw (c .before .before .before .before .control2 .ensures),
-      control-lt (a .ctl0) false,
+      control-lt (pairOf (a .ctl0) false) (pair-lt (a .ctl0) false),
       ap raw (c .before .before .before .control3 .ensures),
-      control-lt (a .ctl2) false,
+      control-lt (pairOf (a .ctl2) false) (pair-lt (a .ctl2) false),
     )
 
 returns : tie.Need-returns

@@ -3,7 +3,8 @@ use mathlib.Core.Path.{ap₂}
 use Prim.Native.Nat.{ℕ, _+_, _*_}
 use native.Mathlib.Omega.{arith}
 use borrow.Author.Needs.{needs}
-use Rattle.timing.proofs.Levels.{level-cast, level-lt, pair-lt}
+use Rattle.hdmi.proofs.Period.{level-lt, pair-lt}
+use Rattle.timing.proofs.Levels.{level-cast}
 use Rattle.timing.proofs.control_pair.Statement.{statement}
 use Rattle.timing.proofs.control_pair.Tie as tie
 
