@@ -359,7 +359,11 @@ pub extern "C" fn chaffrail_make_sync_pulse(timing: Timing, v_sync: u8, line: &m
 }
 
 #[no_mangle]
-pub extern "C" fn chaffrail_make_sync_line_only(timing: Timing, v_sync: u8, line: &mut [u8]) -> Answer
+pub extern "C" fn chaffrail_make_sync_line_only(
+    timing: Timing,
+    v_sync: u8,
+    line: &mut [u8],
+) -> Answer
     ensures answer { λ r. ⌜ r ≡ told (verdict (wordsAsk 11 (now (line .entry)) ∷ lineAsks (timingOf timing) 11 11)) ⌝ }
     ensures words { λ _. ⌜ now (line .exit) ≡ kept (verdict (wordsAsk 11 (now (line .entry)) ∷ lineAsks (timingOf timing) 11 11)) (bytesOf 4 (onlyWords (timingOf timing) (isOn «v_sync»))) (now (line .entry)) ⌝ }
 {
