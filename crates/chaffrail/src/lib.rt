@@ -9,6 +9,7 @@ use symbol::TmdsPair;
 use symbol::TmdsSymbol;
 use terc4::Terc4;
 use terc4::Terc4Number;
+use timing::DviTiming;
 ghost use mathlib.Core.Path.{_≡_};
 ghost use mathlib.Core.List.{[], _∷_};
 ghost use Prim.Native.Nat.{_+_, _*_, _<_};
@@ -30,6 +31,9 @@ ghost use Rattle.symbol.specs.Pair.{joinOf, wordOf, endOf, balancedOf};
 ghost use Rattle.symbol.specs.Read.{Reads};
 ghost use Rattle.symbol.specs.declared.SymbolRead.{SymbolRead};
 ghost use Rattle.terc4.specs.Terc4.{symbolAnswer, readAnswer};
+ghost use Rattle.line.specs.Asks.{lineAsks};
+ghost use Rattle.line.specs.Line.{pulseWords, onlyWords};
+ghost use Rattle.chaffrail.specs.Timing.{timingOf, isOn};
 ghost use Rattle.chaffrail.specs.Words.{wordsAsk};
 ghost use Rattle.chaffrail.specs.Crossing.{given, refused, told, encoded, read, joined, rowEnded, terc4Symbol, terc4Read};
 
@@ -292,5 +296,85 @@ pub extern "C" fn chaffrail_encode_island(hv: u8, packet: &[u8], words: &mut [u8
         return answer_told(v);
     };
     put_words(&room, words);
+    answer_told(v)
+}
+
+// ---- lines
+
+// A display mode, as it crosses. Polarities are 0 (negative) or 1 (positive), the bit clock is in kilohertz.
+#[repr(C)]
+pub struct Timing {
+    pub h_sync_polarity: u8,
+    pub h_front_porch: u32,
+    pub h_sync_width: u32,
+    pub h_back_porch: u32,
+    pub h_active_pixels: u32,
+    pub v_sync_polarity: u8,
+    pub v_front_porch: u32,
+    pub v_sync_width: u32,
+    pub v_back_porch: u32,
+    pub v_active_lines: u32,
+    pub bit_clk: u32,
+}
+
+fn timing_of(t: Timing) -> DviTiming
+    ensures { λ r. ⌜ r ≡ timingOf t ⌝ }
+{
+    DviTiming {
+        h_sync_polarity: t.h_sync_polarity,
+        h_front_porch: t.h_front_porch,
+        h_sync_width: t.h_sync_width,
+        h_back_porch: t.h_back_porch,
+        h_active_pixels: t.h_active_pixels,
+        v_sync_polarity: t.v_sync_polarity,
+        v_front_porch: t.v_front_porch,
+        v_sync_width: t.v_sync_width,
+        v_back_porch: t.v_back_porch,
+        v_active_lines: t.v_active_lines,
+        bit_clk: t.bit_clk,
+    }
+}
+
+fn is_on(level: u8) -> bool
+    ensures { λ r. ⌜ r ≡ isOn level ⌝ }
+{
+    !(level == 0)
+}
+
+#[no_mangle]
+pub extern "C" fn chaffrail_make_sync_pulse(timing: Timing, v_sync: u8, line: &mut [u8]) -> Answer
+    ensures answer { λ r. ⌜ r ≡ told (verdict (wordsAsk 15 (now (line .entry)) ∷ lineAsks (timingOf timing) 15 15)) ⌝ }
+    ensures words { λ _. ⌜ now (line .exit) ≡ kept (verdict (wordsAsk 15 (now (line .entry)) ∷ lineAsks (timingOf timing) 15 15)) (bytesOf 4 (pulseWords (timingOf timing) (isOn «v_sync»))) (now (line .entry)) ⌝ }
+{
+    if line.len() != 60 {
+        return answer_refused(Refusal::Length, 0);
+    }
+    let mut room = [0u32; 15];
+    let v = line::make_sync_pulse(timing_of(timing), is_on(v_sync), &mut room);
+    let Verdict::Fine = v else {
+        return answer_told(v);
+    };
+    put_words(&room, line);
+    answer_told(v)
+}
+
+#[no_mangle]
+pub extern "C" fn chaffrail_make_sync_line_only(
+    timing: Timing,
+    v_sync: u8,
+    line: &mut [u8],
+) -> Answer
+    ensures answer { λ r. ⌜ r ≡ told (verdict (wordsAsk 11 (now (line .entry)) ∷ lineAsks (timingOf timing) 11 11)) ⌝ }
+    ensures words { λ _. ⌜ now (line .exit) ≡ kept (verdict (wordsAsk 11 (now (line .entry)) ∷ lineAsks (timingOf timing) 11 11)) (bytesOf 4 (onlyWords (timingOf timing) (isOn «v_sync»))) (now (line .entry)) ⌝ }
+{
+    if line.len() != 44 {
+        return answer_refused(Refusal::Length, 0);
+    }
+    let mut room = [0u32; 11];
+    let v = line::make_sync_line_only(timing_of(timing), is_on(v_sync), &mut room);
+    let Verdict::Fine = v else {
+        return answer_told(v);
+    };
+    put_words(&room, line);
     answer_told(v)
 }

@@ -282,8 +282,8 @@ pub fn encode_row_bytes(discrepancy: i32, bytes: &[u8], out: &mut [u8]) -> RowEn
     match v {
         Verdict::Refused(r) => RowEncoded::Refused(r, discrepancy),
         Verdict::Fine => {
-            let x = fill_stored(&SHIFTS, &SYMBOLS, bytes, begun(discrepancy), out);
-            RowEncoded::Done(ended(x))
+            let last = fill_stored(&SHIFTS, &SYMBOLS, bytes, begun(discrepancy), out);
+            RowEncoded::Done(ended(last))
         }
     }
 }
@@ -341,9 +341,9 @@ pub fn read_row_bytes(lent: &[u8], out: &mut [u8]) -> Verdict
     if !lengths_fit(lent.len() / 2, out.len()) {
         return Verdict::Refused(Refusal::Length);
     }
-    let bad = scan_stored(&BYTES, lent);
-    if bad != lent.len() / 2 {
-        return Verdict::Refused(Refusal::NotData(bad));
+    let first = scan_stored(&BYTES, lent);
+    if first != lent.len() / 2 {
+        return Verdict::Refused(Refusal::NotData(first));
     }
     unpack_stored(&BYTES, lent, out);
     Verdict::Fine

@@ -170,6 +170,148 @@ fn terc4(t: &mut Tally) {
     }
 }
 
+/// A packet's 36 bytes, header first.
+fn flat(p: &DataPacket) -> [u8; 36] {
+    let mut bytes = [0; 36];
+    bytes[..4].copy_from_slice(&p.header);
+    for (s, out) in p.subpacket.iter().zip(bytes[4..].chunks_mut(8)) {
+        out.copy_from_slice(s);
+    }
+    bytes
+}
+
+fn packet_of(bytes: &[u8; 36]) -> DataPacket {
+    let mut p = DataPacket::default();
+    p.header.copy_from_slice(&bytes[..4]);
+    for (s, from) in p.subpacket.iter_mut().zip(bytes[4..].chunks(8)) {
+        s.copy_from_slice(from);
+    }
+    p
+}
+
+/// A refused call leaves the packet as it was.
+fn unchanged(t: &mut Tally, what: &'static str, input: impl Debug + Copy, kind: Kind, len: usize, call: impl Fn(&mut [u8]) -> Result<(), chaffrail::Refusal>) {
+    let mut lent = vec![0x5a; len];
+    t.same(what, input, Some((kind, 0)), refused(call(&mut lent)));
+    t.all(what, input, &vec![0x5a; len], &lent);
+}
+
+fn clocks(t: &mut Tally, random: &mut Random) {
+    let edges = [0, 1, 255, 256, 65535, 65536, 1_048_574, 1_048_575];
+    let mut inputs: Vec<(u32, u32)> = edges.iter().flat_map(|&a| edges.map(|b| (a, b))).collect();
+    inputs.extend((0..100_000).map(|_| (random.below(1 << 20) as u32, random.below(1 << 20) as u32)));
+    for (cts, n) in inputs {
+        let (mut theirs, mut ours) = (DataPacket::default(), [0xee; 36]);
+        theirs.set_audio_clock_regeneration(cts, n);
+        t.same("clock", (cts, n), Ok(()), chaffrail::set_audio_clock_regeneration(&mut ours, cts, n));
+        t.all("clock packet", (cts, n), &flat(&theirs), &ours);
+    }
+    for (cts, n) in [(1 << 20, 0), (0, 1 << 20), (u32::MAX, u32::MAX)] {
+        unchanged(t, "clock value", (cts, n), Kind::ClockValue, 36, |p| chaffrail::set_audio_clock_regeneration(p, cts, n));
+    }
+    for len in [0, 35, 37, 72] {
+        unchanged(t, "clock packet's length", len, Kind::Length, len, |p| chaffrail::set_audio_clock_regeneration(p, 1 << 20, 0));
+        unchanged(t, "audio info's length", len, Kind::Length, len, |p| chaffrail::set_audio_info_frame(p, 48000));
+        unchanged(t, "AVI info's length", len, Kind::Length, len, |p| chaffrail::set_avi_info_frame(p, chaffrail::Avi { scan: 9, ..Default::default() }));
+    }
+}
+
+fn audio_info(t: &mut Tally, random: &mut Random) {
+    let mut rates = vec![0, 1, 32000, 44099, 44100, 44101, 47999, 48000, 48001, u32::MAX];
+    rates.extend((0..10_000).map(|_| random.next() as u32));
+    for rate in rates {
+        let (mut theirs, mut ours) = (DataPacket::default(), [0xee; 36]);
+        theirs.set_audio_info_frame(rate);
+        t.same("audio info", rate, Ok(()), chaffrail::set_audio_info_frame(&mut ours, rate));
+        t.all("audio info packet", rate, &flat(&theirs), &ours);
+    }
+}
+
+/// The original's field of a number. Its enums have no way in from a number, so each is made of the byte that it is stored as.
+fn field<T>(number: u32) -> T {
+    assert_eq!(size_of::<T>(), 1);
+    unsafe { std::mem::transmute_copy(&(number as u8)) }
+}
+
+fn avi(t: &mut Tally) {
+    let within = |r: std::ops::Range<u32>| r.collect::<Vec<u32>>();
+    let mut frames = 0;
+    for s in within(0..3) {
+        for y in within(0..3) {
+            for c in within(0..4) {
+                for m in within(0..3) {
+                    for r in [0, 8, 9, 10, 11] {
+                        for q in within(0..3) {
+                            for v in [1, 2] {
+                                frames += 1;
+                                let f = chaffrail::Avi { scan: s, pixel_format: y, colorimetry: c, picture_aspect: m, active_aspect: r, quantization: q, video_code: v };
+                                one_avi(t, f);
+                            }
+                        }
+                    }
+                }
+            }
+        }
+    }
+    t.same("AVI frames", (), 3240, frames);
+    let good = chaffrail::Avi { video_code: 1, ..Default::default() };
+    for bad in [
+        chaffrail::Avi { scan: 3, ..good },
+        chaffrail::Avi { pixel_format: 3, ..good },
+        chaffrail::Avi { colorimetry: 4, ..good },
+        chaffrail::Avi { picture_aspect: 3, ..good },
+        chaffrail::Avi { active_aspect: 7, ..good },
+        chaffrail::Avi { active_aspect: 12, ..good },
+        chaffrail::Avi { active_aspect: 255, ..good },
+        chaffrail::Avi { quantization: 3, ..good },
+        chaffrail::Avi { video_code: 0, ..good },
+        chaffrail::Avi { video_code: 3, ..good },
+        chaffrail::Avi { scan: 256, ..good },
+    ] {
+        unchanged(t, "AVI field", bad, Kind::Unlisted, 36, |p| chaffrail::set_avi_info_frame(p, bad));
+    }
+}
+
+/// With no active format (R = 0) the original's byte 2 is swamped: there its byte, the checksum and the parity are put right first.
+fn one_avi(t: &mut Tally, f: chaffrail::Avi) {
+    let (mut theirs, mut ours) = (DataPacket::default(), [0xee; 36]);
+    let r = if f.active_aspect == 0 { 255 } else { f.active_aspect };
+    theirs.set_avi_info_frame(field(f.scan), field(f.pixel_format), field(f.colorimetry), field(f.picture_aspect), field(r), field(f.quantization), field(f.video_code));
+    if f.active_aspect == 0 {
+        let right = (16 * f.picture_aspect + 64 * f.colorimetry) as u8;
+        t.same("AVI byte 2 of the original", f, 255, theirs.subpacket[0][2]);
+        theirs.subpacket[0][0] = theirs.subpacket[0][0].wrapping_add(255).wrapping_sub(right);
+        theirs.subpacket[0][2] = right;
+        theirs.subpacket[0][7] = parity(&theirs.subpacket[0][..7]);
+    }
+    t.same("AVI info", f, Ok(()), chaffrail::set_avi_info_frame(&mut ours, f));
+    t.all("AVI packet", f, &flat(&theirs), &ours);
+}
+
+fn islands(t: &mut Tally, random: &mut Random) {
+    for n in 0..40_000 {
+        let mut packet = [0; 36];
+        if n > 0 {
+            random.fill(&mut packet);
+        }
+        let hv = n as u8 % 4;
+        let (mut theirs, mut ours) = ([0u32; 36], [0xeeu8; 144]);
+        packet_of(&packet).encode(hv, &mut theirs);
+        t.same("island", (hv, packet), Ok(()), chaffrail::encode_island(hv, &packet, &mut ours));
+        let words: Vec<u32> = ours.chunks(4).map(|w| u32::from_le_bytes(w.try_into().unwrap())).collect();
+        t.all("island's words", (hv, packet), &theirs, &words);
+    }
+    for hv in 4..=255 {
+        unchanged(t, "sync pair", hv, Kind::SyncPair, 144, |w| chaffrail::encode_island(hv, &[0; 36], w));
+    }
+    for len in [0, 36, 143, 145, 148, 288] {
+        unchanged(t, "island's length", len, Kind::Length, len, |w| chaffrail::encode_island(9, &[0; 36], w));
+    }
+    for len in [0, 35, 37] {
+        unchanged(t, "island's packet", len, Kind::Length, 144, |w| chaffrail::encode_island(9, &vec![0; len], w));
+    }
+}
+
 fn main() -> ExitCode {
     let mut t = Tally::default();
     let mut random = Random::new(0xfeed_beef_1234_5671);
@@ -179,6 +321,10 @@ fn main() -> ExitCode {
     long_rows(&mut t);
     parities(&mut t, &mut random);
     terc4(&mut t);
+    clocks(&mut t, &mut random);
+    audio_info(&mut t, &mut random);
+    avi(&mut t);
+    islands(&mut t, &mut random);
     println!("compared: {}, different: {}", t.compared, t.wrong);
     if t.wrong == 0 {
         ExitCode::SUCCESS

@@ -1,0 +1,123 @@
+/* Chaffrail: proved functions that put pixels, audio and control on an HDMI cable, and readers for what they write.
+ *
+ * Every input gets an answer. A refused call writes to no lent buffer. A buffer crosses as a pointer and a length in bytes; it may be empty, and
+ * then its pointer is not read, but it is not null. Two buffers of one call do not overlap. What is wider than a byte crosses as bytes, the low
+ * byte first: a symbol as two, a word of three lanes as four.
+ *
+ * A whole example, include/example.c:
+ *
+ *     #include "chaffrail.h"
+ *     #include <stdio.h>
+ *
+ *     int main(void)
+ *     {
+ *         uint8_t row[2] = {0x00, 0x00}, symbols[4], back[2], packet[36], island[144];
+ *         chaffrail_answer a = chaffrail_encode_row(0, row, sizeof row, symbols, sizeof symbols);
+ *         printf("refusal %u, discrepancy %d, symbols %02x%02x %02x%02x\n", (unsigned)a.refusal, (int)a.carry, symbols[1], symbols[0], symbols[3], symbols[2]);
+ *         a = chaffrail_read_row(symbols, sizeof symbols, back, sizeof back);
+ *         printf("refusal %u, bytes %02x %02x\n", (unsigned)a.refusal, back[0], back[1]);
+ *         a = chaffrail_set_audio_clock_regeneration(packet, sizeof packet, 25200, 6144);
+ *         printf("refusal %u, header %02x %02x %02x %02x\n", (unsigned)a.refusal, packet[0], packet[1], packet[2], packet[3]);
+ *         a = chaffrail_encode_island(2, packet, sizeof packet, island, sizeof island);
+ *         printf("refusal %u, guard word %02x%02x%02x%02x\n", (unsigned)a.refusal, island[3], island[2], island[1], island[0]);
+ *         a = chaffrail_encode_symbol(5, 0x10);
+ *         printf("refusal %u, discrepancy %d\n", (unsigned)a.refusal, (int)a.carry);
+ *         return 0;
+ *     }
+ */
+#ifndef CHAFFRAIL_H
+#define CHAFFRAIL_H
+
+#include <stddef.h>
+#include <stdint.h>
+
+#ifdef __cplusplus
+extern "C" {
+#endif
+
+/* The refusals. The lowest number that applies is given, and within it the lowest place. */
+enum chaffrail_refusal {
+    CHAFFRAIL_FINE = 0,
+    CHAFFRAIL_LENGTH = 1,            /* a lent buffer has the wrong length */
+    CHAFFRAIL_DISCREPANCY = 2,       /* the discrepancy is outside -4..4 */
+    CHAFFRAIL_SYNC_PAIR = 3,         /* the sync pair is above 3 */
+    CHAFFRAIL_UNLISTED = 4,          /* a field, polarity, line state, TERC4 number, command count or joined symbol isn't one of the listed numbers */
+    CHAFFRAIL_FRAME_COUNT = 5,       /* the audio frame count is outside 0..191 */
+    CHAFFRAIL_CLOCK_VALUE = 6,       /* CTS or N is 1,048,576 or more */
+    CHAFFRAIL_TIMING_RANGE = 7,      /* the timing is outside its ranges */
+    CHAFFRAIL_LINE_COUNTER = 8,      /* the line counter isn't below the total of lines */
+    CHAFFRAIL_LINE_OFFSET = 9,       /* counter and offset together are above 4,294,967,295 */
+    CHAFFRAIL_UNBALANCED = 10,       /* a pair that must balance ends off zero */
+    CHAFFRAIL_NOT_DATA = 11,         /* not a data symbol; the place is its index */
+    CHAFFRAIL_HIGH_BITS = 12,        /* an island word has bit 30 or 31 set; the place is its index */
+    CHAFFRAIL_GUARD_WORD = 13,       /* a guard word is wrong; the place is its index */
+    CHAFFRAIL_NOT_TERC4 = 14,        /* not TERC4; the place is its index */
+    CHAFFRAIL_SYNC_BITS = 15,        /* lane 0's marker or sync bits are wrong; the place is the word's index */
+    CHAFFRAIL_HEADER_PARITY = 16,    /* the header's parity is wrong */
+    CHAFFRAIL_SUBPACKET_PARITY = 17  /* a subpacket's parity is wrong; the place is the subpacket */
+};
+
+/* What every function answers. */
+typedef struct chaffrail_answer {
+    uint32_t refusal; /* 0, or the refusal's number */
+    uint32_t place;   /* where the refusal was met; 0 where it has no place */
+    uint32_t value;   /* what is answered; 0 where refused, or where nothing is */
+    int32_t carry;    /* what the caller carries to the next call; as it came where refused; 0 where nothing is carried */
+} chaffrail_answer;
+
+/* The symbol of a byte on a lane that stands at this discrepancy. Value: the symbol; carry: the discrepancy after it. Refusal: 2. */
+chaffrail_answer chaffrail_encode_symbol(int32_t discrepancy, uint8_t byte);
+
+/* The byte of a data symbol. Value: the byte. Refusal: 11. */
+chaffrail_answer chaffrail_read_symbol(uint16_t symbol);
+
+/* Two symbols of ten bits in a word, the first in bits 0..9, the second in 10..19. Value: the word. Refusal: 4. */
+chaffrail_answer chaffrail_join_symbols(uint16_t first, uint16_t second);
+
+/* Two bytes on a lane that stands at 0 and is left there. Value: the pair's word. Refusal: 10. */
+chaffrail_answer chaffrail_encode_pair(uint8_t b0, uint8_t b1);
+
+/* Two bytes on a lane that stands at 0. Value: the pair's word; carry: the discrepancy after it. Never refused. */
+chaffrail_answer chaffrail_encode_pair_discrepancy(uint8_t b0, uint8_t b1);
+
+/* A byte and the byte that differs in its lowest bit. Value: the pair's word. Refusal: 10. */
+chaffrail_answer chaffrail_encode_balanced_approx(uint8_t byte);
+
+/* The symbols of a row of 0 to 4,096 bytes, or of a piece of a longer one, two bytes for each. Carry: the discrepancy after it, with which the
+ * next piece begins. Refusals: 1 unless symbols_len is twice bytes_len and that at most 4,096; 2. */
+chaffrail_answer chaffrail_encode_row(int32_t discrepancy, const uint8_t *bytes, size_t bytes_len, uint8_t *symbols, size_t symbols_len);
+
+/* The bytes of a row of 0 to 4,096 symbols of two bytes each. Nothing is written before every symbol was looked at.
+ * Refusals: 1 unless symbols_len is twice bytes_len and that at most 4,096; 11 with the index of the first symbol that is no data symbol. */
+chaffrail_answer chaffrail_read_row(const uint8_t *symbols, size_t symbols_len, uint8_t *bytes, size_t bytes_len);
+
+/* The parity byte of a block of any length. Value: the byte. Never refused. */
+chaffrail_answer chaffrail_parity(const uint8_t *block, size_t block_len);
+
+/* TERC4 of a number. Value: the symbol. Refusal: 4 from 16 on. */
+chaffrail_answer chaffrail_terc4_symbol(uint8_t number);
+
+/* The number of a TERC4 symbol. Value: the number. Refusal: 14. */
+chaffrail_answer chaffrail_read_terc4(uint16_t symbol);
+
+/* The packets: all 36 bytes are written, header 4, then four subpackets of 8, parity bytes included. Refusal 1 unless packet_len is 36. */
+
+/* Audio clock regeneration. Refusals: 1; 6. */
+chaffrail_answer chaffrail_set_audio_clock_regeneration(uint8_t *packet, size_t packet_len, uint32_t cts, uint32_t n);
+
+/* Audio info: two channels of 16 bits; 48000 and 44100 are named in it, any other rate isn't. Refusal: 1. */
+chaffrail_answer chaffrail_set_audio_info_frame(uint8_t *packet, size_t packet_len, uint32_t rate);
+
+/* AVI info from the numbers of its fields: s, y, m and q 0..2; c 0..3; r 0 (no data) or 8..11; v 1 or 2. Refusals: 1; 4. */
+chaffrail_answer chaffrail_set_avi_info_frame(uint8_t *packet, size_t packet_len, uint32_t s, uint32_t y, uint32_t c, uint32_t m, uint32_t r,
+                                              uint32_t q, uint32_t v);
+
+/* The 36 words of an island with one packet of 36 bytes, four bytes for each word; hv is the horizontal level plus twice the vertical one. The
+ * packet's parity bytes are sent as they are. Refusals: 1 unless packet_len is 36 and words_len 144; 3. */
+chaffrail_answer chaffrail_encode_island(uint8_t hv, const uint8_t *packet, size_t packet_len, uint8_t *words, size_t words_len);
+
+#ifdef __cplusplus
+}
+#endif
+
+#endif
