@@ -31,8 +31,8 @@ ghost use Rattle.symbol.specs.Pair.{joinOf, wordOf, endOf, balancedOf};
 ghost use Rattle.symbol.specs.Read.{Reads};
 ghost use Rattle.symbol.specs.declared.SymbolRead.{SymbolRead};
 ghost use Rattle.terc4.specs.Terc4.{symbolAnswer, readAnswer};
-ghost use Rattle.line.specs.Asks.{lineAsks};
-ghost use Rattle.line.specs.Line.{pulseWords, onlyWords};
+ghost use Rattle.line.specs.Asks.{lineAsks, islandAsks};
+ghost use Rattle.line.specs.Line.{pulseWords, onlyWords, initLine, encodeLine};
 ghost use Rattle.chaffrail.specs.Timing.{timingOf, isOn};
 ghost use Rattle.chaffrail.specs.Words.{wordsAsk};
 ghost use Rattle.chaffrail.specs.Crossing.{given, refused, told, encoded, read, joined, rowEnded, terc4Symbol, terc4Read};
@@ -372,6 +372,47 @@ pub extern "C" fn chaffrail_make_sync_line_only(
     }
     let mut room = [0u32; 11];
     let v = line::make_sync_line_only(timing_of(timing), is_on(v_sync), &mut room);
+    let Verdict::Fine = v else {
+        return answer_told(v);
+    };
+    put_words(&room, line);
+    answer_told(v)
+}
+
+#[no_mangle]
+pub extern "C" fn chaffrail_init_data_island(timing: Timing, line: &mut [u8]) -> Answer
+    ensures answer { λ r. ⌜ r ≡ told (verdict (wordsAsk 56 (now (line .entry)) ∷ lineAsks (timingOf timing) 56 56)) ⌝ }
+    ensures words { λ _. ⌜ now (line .exit) ≡ kept (verdict (wordsAsk 56 (now (line .entry)) ∷ lineAsks (timingOf timing) 56 56)) (bytesOf 4 (initLine (timingOf timing) (numbersOf 4 56 (now (line .entry))))) (now (line .entry)) ⌝ }
+{
+    if line.len() != 224 {
+        return answer_refused(Refusal::Length, 0);
+    }
+    let mut room = [0u32; 56];
+    get_words(line, &mut room);
+    let v = line::init_data_island(timing_of(timing), &mut room);
+    let Verdict::Fine = v else {
+        return answer_told(v);
+    };
+    put_words(&room, line);
+    answer_told(v)
+}
+
+#[no_mangle]
+pub extern "C" fn chaffrail_encode_data_island(
+    timing: Timing,
+    line: &mut [u8],
+    state: u8,
+    packet: &[u8],
+) -> Answer
+    ensures answer { λ r. ⌜ r ≡ told (verdict (wordsAsk 56 (now (line .entry)) ∷ islandAsks (timingOf timing) 56 (length (now (packet .entry))) state)) ⌝ }
+    ensures words { λ _. ⌜ now (line .exit) ≡ kept (verdict (wordsAsk 56 (now (line .entry)) ∷ islandAsks (timingOf timing) 56 (length (now (packet .entry))) state)) (bytesOf 4 (encodeLine (timingOf timing) state (now (packet .entry)) (numbersOf 4 56 (now (line .entry))))) (now (line .entry)) ⌝ }
+{
+    if line.len() != 224 {
+        return answer_refused(Refusal::Length, 0);
+    }
+    let mut room = [0u32; 56];
+    get_words(line, &mut room);
+    let v = line::encode_data_island(timing_of(timing), &mut room, state, packet);
     let Verdict::Fine = v else {
         return answer_told(v);
     };
