@@ -139,6 +139,15 @@ chaffrail_answer chaffrail_make_sync_pulse(chaffrail_timing timing, uint8_t v_sy
 /* The 11 words of a line without pixels. Refusals: 1 unless line_len is 44; 4 for a polarity; 7. */
 chaffrail_answer chaffrail_make_sync_line_only(chaffrail_timing timing, uint8_t v_sync, uint8_t *line, size_t line_len);
 
+/* The command words of an island line of 56 words, at 0, 2, 4, 41, 43 and 45; the other words stay as lent. Refusals: 1 unless line_len is 224;
+ * 4 for a polarity; 7. */
+chaffrail_answer chaffrail_init_data_island(chaffrail_timing timing, uint8_t *line, size_t line_len);
+
+/* The other 50 words of an island line, with one packet of 36 bytes. States: 0 front porch, 1 sync, 2 back porch, 3 active. Refusals: 1 unless
+ * line_len is 224 and packet_len 36; 4 for a state or a polarity; 7. */
+chaffrail_answer chaffrail_encode_data_island(chaffrail_timing timing, uint8_t *line, size_t line_len, uint8_t state, const uint8_t *packet,
+                                              size_t packet_len);
+
 #ifdef __cplusplus
 }
 #endif

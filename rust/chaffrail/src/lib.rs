@@ -258,3 +258,21 @@ pub fn make_sync_pulse(timing: Timing, v_sync: bool, line: &mut [u8]) -> Result<
 pub fn make_sync_line_only(timing: Timing, v_sync: bool, line: &mut [u8]) -> Result<(), Refusal> {
     told(unsafe { raw::chaffrail_make_sync_line_only(timing, v_sync as u8, line.as_mut_ptr(), line.len()) }).map(|_| ())
 }
+
+/// The command words of an island line of 56 words, at 0, 2, 4, 41, 43 and 45; the others stay as lent.
+pub fn init_data_island(timing: Timing, line: &mut [u8]) -> Result<(), Refusal> {
+    told(unsafe { raw::chaffrail_init_data_island(timing, line.as_mut_ptr(), line.len()) }).map(|_| ())
+}
+
+/// The other 50 words of an island line, with one packet. States: 0 front porch, 1 sync, 2 back porch, 3 active.
+///
+/// ```
+/// let mut line = [0; 224];
+/// chaffrail::init_data_island(chaffrail::VGA_TIMING, &mut line)?;
+/// chaffrail::encode_data_island(chaffrail::VGA_TIMING, &mut line, 0, &[0; 36])?;
+/// assert_eq!(line[..8], [0x08, 0x10, 0, 0, 0xab, 0x52, 0x4d, 0x35]);
+/// # Ok::<(), chaffrail::Refusal>(())
+/// ```
+pub fn encode_data_island(timing: Timing, line: &mut [u8], state: u8, packet: &[u8]) -> Result<(), Refusal> {
+    told(unsafe { raw::chaffrail_encode_data_island(timing, line.as_mut_ptr(), line.len(), state, packet.as_ptr(), packet.len()) }).map(|_| ())
+}

@@ -2,7 +2,7 @@
 //! refusal and changes nothing. A differing input is printed; the exit status says whether all agreed.
 use chaffrail::Kind;
 use compare::dvi::data_island::*;
-use compare::dvi::timing::DviTiming;
+use compare::dvi::timing::{DviTiming, DviTimingLineState};
 use compare::dvi::tmds::TmdsPair;
 use compare::{original_encode, Random};
 use std::fmt::Debug;
@@ -380,6 +380,50 @@ fn sync_lines(t: &mut Tally, random: &mut Random) {
     }
 }
 
+fn island_lines(t: &mut Tally, random: &mut Random) {
+    for n in 0..40_000u32 {
+        let (theirs, ours) = timing(random);
+        let mut packet = [0; 36];
+        if n > 3 {
+            random.fill(&mut packet);
+        }
+        let mut bytes = [0u8; 224];
+        random.fill(&mut bytes);
+        let mut line: [u32; 56] = words(&bytes).try_into().unwrap();
+        theirs.init_data_island(&mut line);
+        t.same("island line begun", ours, Ok(()), chaffrail::init_data_island(ours, &mut bytes));
+        t.all("island line's commands", ours, &line, &words(&bytes));
+        let state = n as u8 % 4;
+        let theirs_state = match state {
+            0 => DviTimingLineState::FrontPorch,
+            1 => DviTimingLineState::Sync,
+            2 => DviTimingLineState::BackPorch,
+            _ => DviTimingLineState::Active,
+        };
+        if n < 4 {
+            theirs.encode_data_island_empty(&mut line, theirs_state);
+        } else {
+            theirs.encode_data_island(&mut line, theirs_state, &packet_of(&packet));
+        }
+        t.same("island line", (ours, state), Ok(()), chaffrail::encode_data_island(ours, &mut bytes, state, &packet));
+        t.all("island line's words", (ours, state), &line, &words(&bytes));
+    }
+    let vga = chaffrail::VGA_TIMING;
+    let bad = chaffrail::Timing { h_sync_width: 36, ..vga };
+    unchanged(t, "line of a bad timing", bad, Kind::TimingRange, 224, |l| chaffrail::init_data_island(bad, l));
+    unchanged(t, "line of a bad timing", bad, Kind::TimingRange, 224, |l| chaffrail::encode_data_island(bad, l, 3, &[0; 36]));
+    for state in 4..=255 {
+        unchanged(t, "line state", state, Kind::Unlisted, 224, |l| chaffrail::encode_data_island(bad, l, state, &[0; 36]));
+    }
+    for len in [0, 56, 220, 223, 225, 228] {
+        unchanged(t, "island line's length", len, Kind::Length, len, |l| chaffrail::init_data_island(bad, l));
+        unchanged(t, "island line's length", len, Kind::Length, len, |l| chaffrail::encode_data_island(bad, l, 9, &[0; 36]));
+    }
+    for len in [0, 35, 37] {
+        unchanged(t, "island line's packet", len, Kind::Length, 224, |l| chaffrail::encode_data_island(bad, l, 9, &vec![0; len]));
+    }
+}
+
 fn main() -> ExitCode {
     let mut t = Tally::default();
     let mut random = Random::new(0xfeed_beef_1234_5671);
@@ -394,6 +438,7 @@ fn main() -> ExitCode {
     avi(&mut t);
     islands(&mut t, &mut random);
     sync_lines(&mut t, &mut random);
+    island_lines(&mut t, &mut random);
     println!("compared: {}, different: {}", t.compared, t.wrong);
     if t.wrong == 0 {
         ExitCode::SUCCESS
