@@ -15,7 +15,7 @@ ghost use mathlib.Core.List.{[], _∷_};
 ghost use Prim.Native.Nat.{_+_, _*_, _<_};
 ghost use lib.Bits.{bitXor};
 ghost use lib.IntN.{ℤ, pos};
-ghost use lib.ListN.{length, take, drop};
+ghost use lib.ListN.{length, take, drop, replicate};
 ghost use lib.Seq.{sets};
 ghost use Rattle.laws.specs.Bytes.{lowFirst, fromLow, bytesOf, numbersOf};
 ghost use Rattle.hdmi.specs.Clock.{clockPacket};
@@ -418,4 +418,18 @@ pub extern "C" fn chaffrail_encode_data_island(
     };
     put_words(&room, line);
     answer_told(v)
+}
+
+// The same as with a packet of 36 zeros.
+#[no_mangle]
+pub extern "C" fn chaffrail_encode_data_island_empty(
+    timing: Timing,
+    line: &mut [u8],
+    state: u8,
+) -> Answer
+    ensures answer { λ r. ⌜ r ≡ told (verdict (wordsAsk 56 (now (line .entry)) ∷ islandAsks (timingOf timing) 56 36 state)) ⌝ }
+    ensures words { λ _. ⌜ now (line .exit) ≡ kept (verdict (wordsAsk 56 (now (line .entry)) ∷ islandAsks (timingOf timing) 56 36 state)) (bytesOf 4 (encodeLine (timingOf timing) state (replicate 36 0) (numbersOf 4 56 (now (line .entry))))) (now (line .entry)) ⌝ }
+{
+    let zeros = [0u8; 36];
+    chaffrail_encode_data_island(timing, line, state, &zeros)
 }
