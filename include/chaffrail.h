@@ -148,6 +148,9 @@ chaffrail_answer chaffrail_init_data_island(chaffrail_timing timing, uint8_t *li
 chaffrail_answer chaffrail_encode_data_island(chaffrail_timing timing, uint8_t *line, size_t line_len, uint8_t state, const uint8_t *packet,
                                               size_t packet_len);
 
+/* The same with a packet of 36 zeros. Refusals: 1 unless line_len is 224; 4 for a state or a polarity; 7. */
+chaffrail_answer chaffrail_encode_data_island_empty(chaffrail_timing timing, uint8_t *line, size_t line_len, uint8_t state);
+
 #ifdef __cplusplus
 }
 #endif

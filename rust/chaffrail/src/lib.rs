@@ -276,3 +276,8 @@ pub fn init_data_island(timing: Timing, line: &mut [u8]) -> Result<(), Refusal> 
 pub fn encode_data_island(timing: Timing, line: &mut [u8], state: u8, packet: &[u8]) -> Result<(), Refusal> {
     told(unsafe { raw::chaffrail_encode_data_island(timing, line.as_mut_ptr(), line.len(), state, packet.as_ptr(), packet.len()) }).map(|_| ())
 }
+
+/// The same as [`encode_data_island`] with a packet of 36 zeros.
+pub fn encode_data_island_empty(timing: Timing, line: &mut [u8], state: u8) -> Result<(), Refusal> {
+    told(unsafe { raw::chaffrail_encode_data_island_empty(timing, line.as_mut_ptr(), line.len(), state) }).map(|_| ())
+}

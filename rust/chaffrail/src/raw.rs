@@ -48,4 +48,5 @@ extern "C" {
     pub fn chaffrail_make_sync_line_only(timing: Timing, v_sync: u8, line: *mut u8, line_len: usize) -> Answer;
     pub fn chaffrail_init_data_island(timing: Timing, line: *mut u8, line_len: usize) -> Answer;
     pub fn chaffrail_encode_data_island(timing: Timing, line: *mut u8, line_len: usize, state: u8, packet: *const u8, packet_len: usize) -> Answer;
+    pub fn chaffrail_encode_data_island_empty(timing: Timing, line: *mut u8, line_len: usize, state: u8) -> Answer;
 }

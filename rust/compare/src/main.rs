@@ -400,11 +400,11 @@ fn island_lines(t: &mut Tally, random: &mut Random) {
             2 => DviTimingLineState::BackPorch,
             _ => DviTimingLineState::Active,
         };
-        if n < 4 {
-            theirs.encode_data_island_empty(&mut line, theirs_state);
-        } else {
-            theirs.encode_data_island(&mut line, theirs_state, &packet_of(&packet));
-        }
+        let mut empty = (line, bytes);
+        theirs.encode_data_island_empty(&mut empty.0, theirs_state);
+        t.same("empty island line", (ours, state), Ok(()), chaffrail::encode_data_island_empty(ours, &mut empty.1, state));
+        t.all("empty island line's words", (ours, state), &empty.0, &words(&empty.1));
+        theirs.encode_data_island(&mut line, theirs_state, &packet_of(&packet));
         t.same("island line", (ours, state), Ok(()), chaffrail::encode_data_island(ours, &mut bytes, state, &packet));
         t.all("island line's words", (ours, state), &line, &words(&bytes));
     }
@@ -414,6 +414,7 @@ fn island_lines(t: &mut Tally, random: &mut Random) {
     unchanged(t, "line of a bad timing", bad, Kind::TimingRange, 224, |l| chaffrail::encode_data_island(bad, l, 3, &[0; 36]));
     for state in 4..=255 {
         unchanged(t, "line state", state, Kind::Unlisted, 224, |l| chaffrail::encode_data_island(bad, l, state, &[0; 36]));
+        unchanged(t, "line state", state, Kind::Unlisted, 224, |l| chaffrail::encode_data_island_empty(bad, l, state));
     }
     for len in [0, 56, 220, 223, 225, 228] {
         unchanged(t, "island line's length", len, Kind::Length, len, |l| chaffrail::init_data_island(bad, l));
