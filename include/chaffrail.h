@@ -116,6 +116,41 @@ chaffrail_answer chaffrail_set_avi_info_frame(uint8_t *packet, size_t packet_len
  * packet's parity bytes are sent as they are. Refusals: 1 unless packet_len is 36 and words_len 144; 3. */
 chaffrail_answer chaffrail_encode_island(uint8_t hv, const uint8_t *packet, size_t packet_len, uint8_t *words, size_t words_len);
 
+/* A display mode. Polarities are 0 (negative) or 1 (positive), the bit clock is in kilohertz. Ranges: front porch 9..4095, sync 37..4095, back
+ * porch 11..4095, active pixels 9..4095, each vertical number 1..4095. */
+typedef struct chaffrail_timing {
+    uint8_t h_sync_polarity;
+    uint32_t h_front_porch;
+    uint32_t h_sync_width;
+    uint32_t h_back_porch;
+    uint32_t h_active_pixels;
+    uint8_t v_sync_polarity;
+    uint32_t v_front_porch;
+    uint32_t v_sync_width;
+    uint32_t v_back_porch;
+    uint32_t v_active_lines;
+    uint32_t bit_clk;
+} chaffrail_timing;
+
+/* The 15 words of a blanking with a sync pulse, four bytes for each; v_sync is 0 for off, else on. Refusals: 1 unless line_len is 60; 4 for a
+ * polarity; 7. */
+chaffrail_answer chaffrail_make_sync_pulse(chaffrail_timing timing, uint8_t v_sync, uint8_t *line, size_t line_len);
+
+/* The 11 words of a line without pixels. Refusals: 1 unless line_len is 44; 4 for a polarity; 7. */
+chaffrail_answer chaffrail_make_sync_line_only(chaffrail_timing timing, uint8_t v_sync, uint8_t *line, size_t line_len);
+
+/* The command words of an island line of 56 words, at 0, 2, 4, 41, 43 and 45; the other words stay as lent. Refusals: 1 unless line_len is 224;
+ * 4 for a polarity; 7. */
+chaffrail_answer chaffrail_init_data_island(chaffrail_timing timing, uint8_t *line, size_t line_len);
+
+/* The other 50 words of an island line, with one packet of 36 bytes. States: 0 front porch, 1 sync, 2 back porch, 3 active. Refusals: 1 unless
+ * line_len is 224 and packet_len 36; 4 for a state or a polarity; 7. */
+chaffrail_answer chaffrail_encode_data_island(chaffrail_timing timing, uint8_t *line, size_t line_len, uint8_t state, const uint8_t *packet,
+                                              size_t packet_len);
+
+/* The same with a packet of 36 zeros. Refusals: 1 unless line_len is 224; 4 for a state or a polarity; 7. */
+chaffrail_answer chaffrail_encode_data_island_empty(chaffrail_timing timing, uint8_t *line, size_t line_len, uint8_t state);
+
 #ifdef __cplusplus
 }
 #endif

@@ -15,7 +15,7 @@ ghost use mathlib.Core.List.{[], _∷_};
 ghost use Prim.Native.Nat.{_+_, _*_, _<_};
 ghost use lib.Bits.{bitXor};
 ghost use lib.IntN.{ℤ, pos};
-ghost use lib.ListN.{length, take, drop};
+ghost use lib.ListN.{length, take, drop, replicate};
 ghost use lib.Seq.{sets};
 ghost use Rattle.laws.specs.Bytes.{lowFirst, fromLow, bytesOf, numbersOf};
 ghost use Rattle.hdmi.specs.Clock.{clockPacket};
@@ -31,8 +31,8 @@ ghost use Rattle.symbol.specs.Pair.{joinOf, wordOf, endOf, balancedOf};
 ghost use Rattle.symbol.specs.Read.{Reads};
 ghost use Rattle.symbol.specs.declared.SymbolRead.{SymbolRead};
 ghost use Rattle.terc4.specs.Terc4.{symbolAnswer, readAnswer};
-ghost use Rattle.line.specs.Asks.{lineAsks};
-ghost use Rattle.line.specs.Line.{pulseWords, onlyWords};
+ghost use Rattle.line.specs.Asks.{lineAsks, islandAsks};
+ghost use Rattle.line.specs.Line.{pulseWords, onlyWords, initLine, encodeLine};
 ghost use Rattle.chaffrail.specs.Timing.{timingOf, isOn};
 ghost use Rattle.chaffrail.specs.Words.{wordsAsk};
 ghost use Rattle.chaffrail.specs.Crossing.{given, refused, told, encoded, read, joined, rowEnded, terc4Symbol, terc4Read};
@@ -377,4 +377,59 @@ pub extern "C" fn chaffrail_make_sync_line_only(
     };
     put_words(&room, line);
     answer_told(v)
+}
+
+#[no_mangle]
+pub extern "C" fn chaffrail_init_data_island(timing: Timing, line: &mut [u8]) -> Answer
+    ensures answer { λ r. ⌜ r ≡ told (verdict (wordsAsk 56 (now (line .entry)) ∷ lineAsks (timingOf timing) 56 56)) ⌝ }
+    ensures words { λ _. ⌜ now (line .exit) ≡ kept (verdict (wordsAsk 56 (now (line .entry)) ∷ lineAsks (timingOf timing) 56 56)) (bytesOf 4 (initLine (timingOf timing) (numbersOf 4 56 (now (line .entry))))) (now (line .entry)) ⌝ }
+{
+    if line.len() != 224 {
+        return answer_refused(Refusal::Length, 0);
+    }
+    let mut room = [0u32; 56];
+    get_words(line, &mut room);
+    let v = line::init_data_island(timing_of(timing), &mut room);
+    let Verdict::Fine = v else {
+        return answer_told(v);
+    };
+    put_words(&room, line);
+    answer_told(v)
+}
+
+#[no_mangle]
+pub extern "C" fn chaffrail_encode_data_island(
+    timing: Timing,
+    line: &mut [u8],
+    state: u8,
+    packet: &[u8],
+) -> Answer
+    ensures answer { λ r. ⌜ r ≡ told (verdict (wordsAsk 56 (now (line .entry)) ∷ islandAsks (timingOf timing) 56 (length (now (packet .entry))) state)) ⌝ }
+    ensures words { λ _. ⌜ now (line .exit) ≡ kept (verdict (wordsAsk 56 (now (line .entry)) ∷ islandAsks (timingOf timing) 56 (length (now (packet .entry))) state)) (bytesOf 4 (encodeLine (timingOf timing) state (now (packet .entry)) (numbersOf 4 56 (now (line .entry))))) (now (line .entry)) ⌝ }
+{
+    if line.len() != 224 {
+        return answer_refused(Refusal::Length, 0);
+    }
+    let mut room = [0u32; 56];
+    get_words(line, &mut room);
+    let v = line::encode_data_island(timing_of(timing), &mut room, state, packet);
+    let Verdict::Fine = v else {
+        return answer_told(v);
+    };
+    put_words(&room, line);
+    answer_told(v)
+}
+
+// The same as with a packet of 36 zeros.
+#[no_mangle]
+pub extern "C" fn chaffrail_encode_data_island_empty(
+    timing: Timing,
+    line: &mut [u8],
+    state: u8,
+) -> Answer
+    ensures answer { λ r. ⌜ r ≡ told (verdict (wordsAsk 56 (now (line .entry)) ∷ islandAsks (timingOf timing) 56 36 state)) ⌝ }
+    ensures words { λ _. ⌜ now (line .exit) ≡ kept (verdict (wordsAsk 56 (now (line .entry)) ∷ islandAsks (timingOf timing) 56 36 state)) (bytesOf 4 (encodeLine (timingOf timing) state (replicate 36 0) (numbersOf 4 56 (now (line .entry))))) (now (line .entry)) ⌝ }
+{
+    let zeros = [0u8; 36];
+    chaffrail_encode_data_island(timing, line, state, &zeros)
 }

@@ -15,7 +15,22 @@
 
 pub mod raw;
 
-pub use raw::Answer;
+pub use raw::{Answer, Timing};
+
+/// 640 by 480 at 60 Hz.
+pub const VGA_TIMING: Timing = Timing {
+    h_sync_polarity: 0,
+    h_front_porch: 16,
+    h_sync_width: 96,
+    h_back_porch: 48,
+    h_active_pixels: 640,
+    v_sync_polarity: 0,
+    v_front_porch: 10,
+    v_sync_width: 2,
+    v_back_porch: 33,
+    v_active_lines: 480,
+    bit_clk: 252000,
+};
 
 /// Why a call was refused: the number of the table in `include/chaffrail.h`, and where.
 #[derive(Clone, Copy, Debug, PartialEq, Eq)]
@@ -225,4 +240,44 @@ pub fn set_avi_info_frame(packet: &mut [u8], f: Avi) -> Result<(), Refusal> {
 /// The 36 words of an island with one packet, four bytes each, low byte first.
 pub fn encode_island(hv: u8, packet: &[u8], words: &mut [u8]) -> Result<(), Refusal> {
     told(unsafe { raw::chaffrail_encode_island(hv, packet.as_ptr(), packet.len(), words.as_mut_ptr(), words.len()) }).map(|_| ())
+}
+
+/// The 15 words of a blanking with a sync pulse, four bytes each, low byte first.
+///
+/// ```
+/// let mut line = [0; 60];
+/// chaffrail::make_sync_pulse(chaffrail::VGA_TIMING, false, &mut line)?;
+/// assert_eq!(line[..4], [0x10, 0x10, 0, 0]); // one word, 16 times
+/// # Ok::<(), chaffrail::Refusal>(())
+/// ```
+pub fn make_sync_pulse(timing: Timing, v_sync: bool, line: &mut [u8]) -> Result<(), Refusal> {
+    told(unsafe { raw::chaffrail_make_sync_pulse(timing, v_sync as u8, line.as_mut_ptr(), line.len()) }).map(|_| ())
+}
+
+/// The 11 words of a line without pixels, four bytes each, low byte first.
+pub fn make_sync_line_only(timing: Timing, v_sync: bool, line: &mut [u8]) -> Result<(), Refusal> {
+    told(unsafe { raw::chaffrail_make_sync_line_only(timing, v_sync as u8, line.as_mut_ptr(), line.len()) }).map(|_| ())
+}
+
+/// The command words of an island line of 56 words, at 0, 2, 4, 41, 43 and 45; the others stay as lent.
+pub fn init_data_island(timing: Timing, line: &mut [u8]) -> Result<(), Refusal> {
+    told(unsafe { raw::chaffrail_init_data_island(timing, line.as_mut_ptr(), line.len()) }).map(|_| ())
+}
+
+/// The other 50 words of an island line, with one packet. States: 0 front porch, 1 sync, 2 back porch, 3 active.
+///
+/// ```
+/// let mut line = [0; 224];
+/// chaffrail::init_data_island(chaffrail::VGA_TIMING, &mut line)?;
+/// chaffrail::encode_data_island(chaffrail::VGA_TIMING, &mut line, 0, &[0; 36])?;
+/// assert_eq!(line[..8], [0x08, 0x10, 0, 0, 0xab, 0x52, 0x4d, 0x35]);
+/// # Ok::<(), chaffrail::Refusal>(())
+/// ```
+pub fn encode_data_island(timing: Timing, line: &mut [u8], state: u8, packet: &[u8]) -> Result<(), Refusal> {
+    told(unsafe { raw::chaffrail_encode_data_island(timing, line.as_mut_ptr(), line.len(), state, packet.as_ptr(), packet.len()) }).map(|_| ())
+}
+
+/// The same as [`encode_data_island`] with a packet of 36 zeros.
+pub fn encode_data_island_empty(timing: Timing, line: &mut [u8], state: u8) -> Result<(), Refusal> {
+    told(unsafe { raw::chaffrail_encode_data_island_empty(timing, line.as_mut_ptr(), line.len(), state) }).map(|_| ())
 }

@@ -10,6 +10,23 @@ pub struct Answer {
     pub carry: i32,
 }
 
+/// A display mode. Polarities are 0 (negative) or 1 (positive), the bit clock is in kilohertz.
+#[repr(C)]
+#[derive(Clone, Copy, Debug, PartialEq, Eq)]
+pub struct Timing {
+    pub h_sync_polarity: u8,
+    pub h_front_porch: u32,
+    pub h_sync_width: u32,
+    pub h_back_porch: u32,
+    pub h_active_pixels: u32,
+    pub v_sync_polarity: u8,
+    pub v_front_porch: u32,
+    pub v_sync_width: u32,
+    pub v_back_porch: u32,
+    pub v_active_lines: u32,
+    pub bit_clk: u32,
+}
+
 extern "C" {
     pub fn chaffrail_encode_symbol(discrepancy: i32, byte: u8) -> Answer;
     pub fn chaffrail_read_symbol(symbol: u16) -> Answer;
@@ -27,4 +44,9 @@ extern "C" {
     #[allow(clippy::too_many_arguments)]
     pub fn chaffrail_set_avi_info_frame(packet: *mut u8, packet_len: usize, s: u32, y: u32, c: u32, m: u32, r: u32, q: u32, v: u32) -> Answer;
     pub fn chaffrail_encode_island(hv: u8, packet: *const u8, packet_len: usize, words: *mut u8, words_len: usize) -> Answer;
+    pub fn chaffrail_make_sync_pulse(timing: Timing, v_sync: u8, line: *mut u8, line_len: usize) -> Answer;
+    pub fn chaffrail_make_sync_line_only(timing: Timing, v_sync: u8, line: *mut u8, line_len: usize) -> Answer;
+    pub fn chaffrail_init_data_island(timing: Timing, line: *mut u8, line_len: usize) -> Answer;
+    pub fn chaffrail_encode_data_island(timing: Timing, line: *mut u8, line_len: usize, state: u8, packet: *const u8, packet_len: usize) -> Answer;
+    pub fn chaffrail_encode_data_island_empty(timing: Timing, line: *mut u8, line_len: usize, state: u8) -> Answer;
 }

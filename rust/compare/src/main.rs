@@ -2,6 +2,7 @@
 //! refusal and changes nothing. A differing input is printed; the exit status says whether all agreed.
 use chaffrail::Kind;
 use compare::dvi::data_island::*;
+use compare::dvi::timing::{DviTiming, DviTimingLineState};
 use compare::dvi::tmds::TmdsPair;
 use compare::{original_encode, Random};
 use std::fmt::Debug;
@@ -312,6 +313,118 @@ fn islands(t: &mut Tally, random: &mut Random) {
     }
 }
 
+/// A timing in its ranges, for both sides.
+fn timing(random: &mut Random) -> (DviTiming, chaffrail::Timing) {
+    let mut from = |low: u64| (low + random.below(4096 - low)) as u32;
+    let (h, v) = ([from(9), from(37), from(11), from(9)], [from(1), from(1), from(1), from(1)]);
+    let (h_positive, v_positive) = (random.below(2) == 1, random.below(2) == 1);
+    let theirs = DviTiming {
+        h_sync_polarity: h_positive,
+        h_front_porch: h[0],
+        h_sync_width: h[1],
+        h_back_porch: h[2],
+        h_active_pixels: h[3],
+        v_sync_polarity: v_positive,
+        v_front_porch: v[0],
+        v_sync_width: v[1],
+        v_back_porch: v[2],
+        v_active_lines: v[3],
+        bit_clk: compare::KilohertzU32::kHz(252000),
+    };
+    let ours = chaffrail::Timing {
+        h_sync_polarity: h_positive as u8,
+        h_front_porch: h[0],
+        h_sync_width: h[1],
+        h_back_porch: h[2],
+        h_active_pixels: h[3],
+        v_sync_polarity: v_positive as u8,
+        v_front_porch: v[0],
+        v_sync_width: v[1],
+        v_back_porch: v[2],
+        v_active_lines: v[3],
+        bit_clk: 252000,
+    };
+    (theirs, ours)
+}
+
+fn words(bytes: &[u8]) -> Vec<u32> {
+    bytes.chunks(4).map(|w| u32::from_le_bytes(w.try_into().unwrap())).collect()
+}
+
+fn sync_lines(t: &mut Tally, random: &mut Random) {
+    for n in 0..50_000 {
+        let (theirs, ours) = timing(random);
+        let v_sync = n % 2 == 0;
+        let (mut pulse, mut only) = ([0xee; 60], [0xee; 44]);
+        t.same("sync pulse", ours, Ok(()), chaffrail::make_sync_pulse(ours, v_sync, &mut pulse));
+        t.all("sync pulse's words", ours, &theirs.make_sync_pulse(v_sync), &words(&pulse));
+        t.same("sync-only line", ours, Ok(()), chaffrail::make_sync_line_only(ours, v_sync, &mut only));
+        t.all("sync-only line's words", ours, &theirs.make_sync_line_only(v_sync), &words(&only));
+    }
+    let vga = chaffrail::VGA_TIMING;
+    for (kind, bad) in [
+        (Kind::TimingRange, chaffrail::Timing { h_front_porch: 8, ..vga }),
+        (Kind::TimingRange, chaffrail::Timing { h_front_porch: 4096, ..vga }),
+        (Kind::TimingRange, chaffrail::Timing { h_sync_width: 36, ..vga }),
+        (Kind::TimingRange, chaffrail::Timing { h_back_porch: 10, ..vga }),
+        (Kind::TimingRange, chaffrail::Timing { h_active_pixels: 8, ..vga }),
+        (Kind::TimingRange, chaffrail::Timing { v_front_porch: 0, ..vga }),
+        (Kind::TimingRange, chaffrail::Timing { v_active_lines: u32::MAX, ..vga }),
+        (Kind::Unlisted, chaffrail::Timing { h_sync_polarity: 2, h_front_porch: 8, ..vga }),
+        (Kind::Unlisted, chaffrail::Timing { v_sync_polarity: 255, ..vga }),
+    ] {
+        unchanged(t, "pulse of a bad timing", bad, kind, 60, |l| chaffrail::make_sync_pulse(bad, true, l));
+        unchanged(t, "line of a bad timing", bad, kind, 44, |l| chaffrail::make_sync_line_only(bad, true, l));
+        unchanged(t, "pulse's length first", bad, Kind::Length, 61, |l| chaffrail::make_sync_pulse(bad, true, l));
+        unchanged(t, "line's length first", bad, Kind::Length, 40, |l| chaffrail::make_sync_line_only(bad, true, l));
+    }
+}
+
+fn island_lines(t: &mut Tally, random: &mut Random) {
+    for n in 0..40_000u32 {
+        let (theirs, ours) = timing(random);
+        let mut packet = [0; 36];
+        if n > 3 {
+            random.fill(&mut packet);
+        }
+        let mut bytes = [0u8; 224];
+        random.fill(&mut bytes);
+        let mut line: [u32; 56] = words(&bytes).try_into().unwrap();
+        theirs.init_data_island(&mut line);
+        t.same("island line begun", ours, Ok(()), chaffrail::init_data_island(ours, &mut bytes));
+        t.all("island line's commands", ours, &line, &words(&bytes));
+        let state = n as u8 % 4;
+        let theirs_state = match state {
+            0 => DviTimingLineState::FrontPorch,
+            1 => DviTimingLineState::Sync,
+            2 => DviTimingLineState::BackPorch,
+            _ => DviTimingLineState::Active,
+        };
+        let mut empty = (line, bytes);
+        theirs.encode_data_island_empty(&mut empty.0, theirs_state);
+        t.same("empty island line", (ours, state), Ok(()), chaffrail::encode_data_island_empty(ours, &mut empty.1, state));
+        t.all("empty island line's words", (ours, state), &empty.0, &words(&empty.1));
+        theirs.encode_data_island(&mut line, theirs_state, &packet_of(&packet));
+        t.same("island line", (ours, state), Ok(()), chaffrail::encode_data_island(ours, &mut bytes, state, &packet));
+        t.all("island line's words", (ours, state), &line, &words(&bytes));
+    }
+    let vga = chaffrail::VGA_TIMING;
+    let bad = chaffrail::Timing { h_sync_width: 36, ..vga };
+    unchanged(t, "line of a bad timing", bad, Kind::TimingRange, 224, |l| chaffrail::init_data_island(bad, l));
+    unchanged(t, "line of a bad timing", bad, Kind::TimingRange, 224, |l| chaffrail::encode_data_island(bad, l, 3, &[0; 36]));
+    for state in 4..=255 {
+        unchanged(t, "line state", state, Kind::Unlisted, 224, |l| chaffrail::encode_data_island(bad, l, state, &[0; 36]));
+        unchanged(t, "line state", state, Kind::Unlisted, 224, |l| chaffrail::encode_data_island_empty(bad, l, state));
+    }
+    for len in [0, 56, 220, 223, 225, 228] {
+        unchanged(t, "island line's length", len, Kind::Length, len, |l| chaffrail::init_data_island(bad, l));
+        unchanged(t, "island line's length", len, Kind::Length, len, |l| chaffrail::encode_data_island(bad, l, 9, &[0; 36]));
+    }
+    for len in [0, 35, 37] {
+        unchanged(t, "island line's packet", len, Kind::Length, 224, |l| chaffrail::encode_data_island(bad, l, 9, &vec![0; len]));
+    }
+}
+
 fn main() -> ExitCode {
     let mut t = Tally::default();
     let mut random = Random::new(0xfeed_beef_1234_5671);
@@ -325,6 +438,8 @@ fn main() -> ExitCode {
     audio_info(&mut t, &mut random);
     avi(&mut t);
     islands(&mut t, &mut random);
+    sync_lines(&mut t, &mut random);
+    island_lines(&mut t, &mut random);
     println!("compared: {}, different: {}", t.compared, t.wrong);
     if t.wrong == 0 {
         ExitCode::SUCCESS
