@@ -27,9 +27,9 @@ row-place lent room =
     let ss : List ℕ = symbolsIn lent in
     asked (eqb (length lent % 2) 0) (lengthsFit (length ss) room) (eqb (firstBad ss) (length ss)) (firstBad ss)
     (λ t.
-        let l = first-le (λ i. not (isData (getD ss i 0))) 0 (length ss) in
-        let m = leb→le (length ss) 4096 (and-left (leb (length ss) 4096) (eqb room (length ss)) t) in
-        omega arith)
+    let l = first-le (λ i. not (isData (getD ss i 0))) 0 (length ss) in
+    let m = leb→le (length ss) 4096 (and-left (leb (length ss) 4096) (eqb room (length ss)) t) in
+    omega arith)
 
 pub row-place-whole : (lent : List ℕ) (room : ℕ) → verdictPlace (verdict (readBytesAsks lent room)) % 2 ^ 32 ≡ verdictPlace (verdict (readBytesAsks lent room))
 row-place-whole lent room = let h = row-place lent room in mod-eq-of-lt (omega arith)
