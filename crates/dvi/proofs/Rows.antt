@@ -6,11 +6,12 @@ use native.Mathlib.Omega.{arith}
 use lib.Dec.{T, leb, leb→le}
 use lib.IntN.{ℤ, pos, natAbs, _+ℤ_, _*ℤ_}
 use lib.ListN.{length, take, drop, getD}
+use Rattle.laws.specs.Bytes.{Bytes}
 use Rattle.laws.proofs.Integers.{each, over-number}
 use Rattle.dvi.specs.Decoder.{byteOf, isData}
 use Rattle.dvi.specs.Encoder.{encoder, valueOf}
 use Rattle.dvi.specs.Plain.{onesOf}
-use Rattle.dvi.specs.Row.{dviRow, dviCnt, rowSymbols, rowEnd, rowOnes, rowBytes, Bytes}
+use Rattle.dvi.specs.Row.{dviRow, dviCnt, rowSymbols, rowEnd, rowOnes, rowBytes}
 use Rattle.dvi.specs.Symbol.{inRange, symbolOf, nextOf}
 use Rattle.dvi.proofs.Decoding.{read-back, symbol-is-data}
 use Rattle.dvi.proofs.Symbols.{stays, twice-next}

@@ -1,6 +1,6 @@
 -- A row of bytes on one lane, and a row of symbols read back.
 use mathlib.Core.List.{List, [], _∷_, map}
-use Prim.Native.Nat.{ℕ, _+_, _<_}
+use Prim.Native.Nat.{ℕ, _+_}
 use lib.IntN.{ℤ}
 use Rattle.dvi.specs.Decoder.{byteOf}
 use Rattle.dvi.specs.Encoder.{encoder, valueOf}
@@ -34,8 +34,3 @@ rowOnes (s ∷ ss) = onesOf 10 s + rowOnes ss
 -- the bytes that the decoder gives for a row of symbols
 abbrev pub rowBytes : List ℕ → List ℕ
 rowBytes ss = map byteOf ss
-
--- every element is a byte
-abbrev pub Bytes : List ℕ → Type 0
-Bytes [] = Unit {0}
-Bytes (b ∷ bs) = (b < 256) × Bytes bs

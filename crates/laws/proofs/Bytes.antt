@@ -7,7 +7,7 @@ use native.Mathlib.Numerals.{add-one}
 use native.Mathlib.Omega.{arith}
 use lib.ListN.{length, take, drop, getD, set, length-append, length-drop}
 use lib.Seq.{sets, sets-eq, take-at, drop-at, drop-drop, drop-cons, length-take-le, take-all}
-use Rattle.laws.specs.Bytes.{lowFirst, fromLow, bytesOf, numbersOf}
+use Rattle.laws.specs.Bytes.{lowFirst, fromLow, bytesOf, numbersOf, Bytes}
 
 pub length-low-first : (w x : ℕ) → length (lowFirst w x) ≡ w
 length-low-first zero x = refl
@@ -80,11 +80,6 @@ written-read w (x ∷ xs) f =
     let n : length (lowFirst w x) ≡ w = length-low-first w x in
     ap₂ (λ (a : List ℕ) (b : List ℕ). fromLow a ∷ numbersOf w (length xs) b) (take-at (lowFirst w x) (bytesOf w xs) w n) (drop-at (lowFirst w x) (bytesOf w xs) w n)
     ∙ ap₂ (λ (a : ℕ) (b : List ℕ). a ∷ b) (low-back w x (f .0)) (written-read w xs (f .1))
-
--- every element is a byte
-abbrev pub Bytes : List ℕ → Type 0
-Bytes [] = Unit {0}
-Bytes (x ∷ xs) = (x < 256) × Bytes xs
 
 pub read-written : (xs : List ℕ) → Bytes xs → lowFirst (length xs) (fromLow xs) ≡ xs
 read-written [] h = refl

@@ -1,6 +1,6 @@
 -- Numbers as bytes, low byte first, at any width in bytes.
 use mathlib.Core.List.{List, [], _∷_, _++_}
-use Prim.Native.Nat.{ℕ, zero, suc, _+_, _*_, _/_, _%_}
+use Prim.Native.Nat.{ℕ, zero, suc, _+_, _*_, _/_, _%_, _<_}
 use lib.ListN.{take, drop}
 
 -- the w lowest bytes of x
@@ -22,3 +22,8 @@ bytesOf w (x ∷ xs) = lowFirst w x ++ bytesOf w xs
 abbrev pub numbersOf : ℕ → ℕ → List ℕ → List ℕ
 numbersOf w zero bs = []
 numbersOf w (suc n) bs = fromLow (take w bs) ∷ numbersOf w n (drop w bs)
+
+-- every element is a byte
+abbrev pub Bytes : List ℕ → Type 0
+Bytes [] = Unit {0}
+Bytes (b ∷ bs) = (b < 256) × Bytes bs

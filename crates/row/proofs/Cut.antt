@@ -10,11 +10,12 @@ use lib.Dec.{T, leb, eqb}
 use lib.IntN.{ℤ, pos, _*ℤ_}
 use lib.ListN.{length, take, drop, getD, length-append, List·getD-append}
 use lib.Seq.{getD-append-add}
+use Rattle.laws.specs.Bytes.{Bytes}
 use Rattle.laws.specs.Search.{first}
 use Rattle.laws.proofs.Searching.{none}
 use Rattle.laws.proofs.Truth.{T-true}
 use Rattle.dvi.specs.Decoder.{byteOf, isData}
-use Rattle.dvi.specs.Row.{dviRow, dviCnt, rowSymbols, rowEnd, rowOnes, rowBytes, Bytes}
+use Rattle.dvi.specs.Row.{dviRow, dviCnt, rowSymbols, rowEnd, rowOnes, rowBytes}
 use Rattle.dvi.specs.Symbol.{inRange}
 use Rattle.dvi.proofs.Rows.{row-is-dvi, end-is-dvi, end-in-range, symbols-append, end-append, length-symbols, reads-back, all-data, balanced, bytes-left, bytes-right}
 use Rattle.refusal.specs.declared.Verdict.the-variants.{Fine}
