@@ -23,7 +23,8 @@ ghost use Rattle.hdmi.specs.Info.{audioInfoFrame, aviInfoFrame};
 ghost use Rattle.hdmi.specs.Island.{island};
 ghost use Rattle.hdmi.specs.Parity.{parity};
 ghost use Rattle.island.specs.Encode.{encodeAsks};
-ghost use Rattle.packet.specs.Asks.{packetAsk, clockAsks, aviAsks};
+ghost use Rattle.blocks.specs.Asks.{packetAsks};
+ghost use Rattle.packet.specs.Asks.{clockAsks, aviAsks};
 ghost use Rattle.refusal.specs.Verdict.{verdict, kept};
 ghost use Rattle.row.specs.Wire.{encodeBytesOf, encodeBytesOut, readBytesAsks, readBytesOut};
 ghost use Rattle.symbol.specs.Encode.{encodeOf};
@@ -212,7 +213,7 @@ pub extern "C" fn chaffrail_set_audio_clock_regeneration(
 
 #[no_mangle]
 pub extern "C" fn chaffrail_set_audio_info_frame(packet: &mut [u8], rate: u32) -> Answer
-    ensures { λ r. ⌜ (r ≡ told (verdict (packetAsk (now (packet .entry)) ∷ []))) × (now (packet .exit) ≡ kept (verdict (packetAsk (now (packet .entry)) ∷ [])) (audioInfoFrame rate) (now (packet .entry))) ⌝ }
+    ensures { λ r. ⌜ (r ≡ told (verdict (packetAsks (now (packet .entry))))) × (now (packet .exit) ≡ kept (verdict (packetAsks (now (packet .entry)))) (audioInfoFrame rate) (now (packet .entry))) ⌝ }
 {
     answer_told(packet::set_audio_info_frame(packet, rate))
 }
