@@ -2,7 +2,9 @@
 use mathlib.Core.Path.{_≡_, refl, sym, ap, _∙_}
 use mathlib.Core.Bool.{Bool, true, false, not, cond}
 use mathlib.Core.List.{List, [], _∷_, _++_, map, append-assoc, append-nil}
-use Prim.Native.Nat.{ℕ, zero, suc, _+_, _≤_, _<_}
+use Prim.Native.Nat.{ℕ, zero, suc, _+_, _*_, _/_, _%_, _≤_, _<_}
+use native.Mathlib.Decide.{decLt}
+use native.Mathlib.Nat.{mod-eq-of-lt, div-eq-of-lt}
 use native.Mathlib.Numerals.{add-one}
 use native.Mathlib.Omega.{arith}
 use borrow.Author.Tests.{le-ltb, not-false}
@@ -16,33 +18,52 @@ use Rattle.dvi.specs.Decoder.{byteOf, isData}
 use Rattle.dvi.specs.Row.{rowBytes}
 use Rattle.dvi.proofs.Decoding.{byte-small, is-small}
 use Rattle.row.specs.Answer.{firstBad}
-use Rattle.row.specs.Lookup.{entryOf, Entries}
+use Rattle.row.specs.Lookup.{entryOf, looked, Entries}
 
 module _ (s : ℕ) where
   -- more than ten bits are no data symbol
-  pub entry-above : 1024 ≤ s → entryOf s ≡ 256
+  above : 1024 ≤ s → isData s ≡ false
   unfolding isData
-  entry-above h = simp (le-ltb s 1024 h)
+  above h = simp (le-ltb s 1024 h)
 
   pub byte-below : isData s ≡ true → byteOf s < 256
   byte-below e = byte-small s (is-small s (true-T e))
 
-  pub entry-of-data : isData s ≡ true → entryOf s ≡ byteOf s
-  entry-of-data e = simp e
+  entry-by : (t : Bool) → isData s ≡ t → cond t (byteOf s) 256 ≤ 256
+  entry-by true e = let l = byte-below e in omega arith
+  entry-by false e = omega arith
+
+  pub entry-le : entryOf s ≤ 256
+  entry-le = entry-by (isData s) refl
+
+  -- ten bits are looked up as they stand
+  looked-ten : s < 1024 → looked s ≡ entryOf s
+  looked-ten h = rw (mod-eq-of-lt h, div-eq-of-lt h) (omega arith)
+
+  pub entry-of-data : isData s ≡ true → looked s ≡ byteOf s
+  entry-of-data e = looked-ten (is-small s (true-T e)) ∙ simp e
 
   none-by : (t : Bool) → isData s ≡ t → 255 < cond t (byteOf s) 256 → t ≡ false
   none-by true e h = let l = byte-below e in absurd (omega arith)
   none-by false e h = refl
 
-  pub none-above : 255 < entryOf s → isData s ≡ false
-  none-above h = none-by (isData s) refl h
+  none-in : Dec (s < 1024) → 255 < looked s → isData s ≡ false
+  none-in (yes l) h = none-by (isData s) refl (rw (looked-ten l) at h)
+  none-in (no l) h = above (omega (arith, l))
+
+  pub none-above : 255 < looked s → isData s ≡ false
+  none-above h = none-in (decLt s 1024) h
 
   data-by : (t : Bool) → cond t (byteOf s) 256 ≤ 255 → t ≡ true
   data-by true h = refl
   data-by false h = absurd (omega arith)
 
-  pub data-below : entryOf s ≤ 255 → isData s ≡ true
-  data-below h = data-by (isData s) h
+  data-in : Dec (s < 1024) → looked s ≤ 255 → isData s ≡ true
+  data-in (yes l) h = data-by (isData s) (rw (looked-ten l) at h)
+  data-in (no l) h = absurd (omega (arith, l))
+
+  pub data-below : looked s ≤ 255 → isData s ≡ true
+  data-below h = data-in (decLt s 1024) h
 
 -- a row that was scanned to its end is all data symbols
 pub scanned : (ss : List ℕ) → firstBad ss ≡ length ss → (i : ℕ) → i < length ss → isData (getD ss i 0) ≡ true

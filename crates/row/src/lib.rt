@@ -17,7 +17,7 @@ ghost use Rattle.dvi.specs.Symbol.{inRange};
 ghost use Rattle.dvi.specs.Row.{rowSymbols, rowEnd, rowBytes};
 ghost use Rattle.refusal.specs.Verdict.{verdict};
 ghost use Rattle.row.specs.Answer.{lengthsFit, encodeRowAsks, encodeRowOf, encodeRowOut, firstBad, readRowAsks, readRowOut};
-ghost use Rattle.row.specs.Lookup.{entryOf, Entries};
+ghost use Rattle.row.specs.Lookup.{entryOf, looked, Entries};
 ghost use Rattle.row.specs.Shift.{held, Field, Rule, Written, Stored, unbiased};
 ghost use Rattle.row.specs.Wire.{encodeBytesOf, encodeBytesOut, symbolsIn, readBytesAsks, readBytesOut};
 
@@ -166,16 +166,13 @@ pub fn encode_row(discrepancy: i32, bytes: &[u8], out: &mut [u16]) -> RowEncoded
     }
 }
 
-// What the table holds for a symbol: its byte, or 256 where it is no data symbol.
+// What the table holds for a symbol: its byte, and 256 or more where it is no data symbol. The bits above ten are put on top, so that one comparison
+// tells both, with no jump of its own.
 fn looked_up(bytes: &[u16; 1024], symbol: u16) -> u16
-    requires { ⌜ (symbol < 1024 → getD (now bytes) symbol 0 ≡ entryOf symbol) ⌝ }
-    ensures { λ r. ⌜ r ≡ entryOf symbol ⌝ }
+    requires { ⌜ getD (now bytes) (symbol % 1024) 0 ≡ entryOf (symbol % 1024) ⌝ }
+    ensures { λ r. ⌜ r ≡ looked symbol ⌝ }
 {
-    if symbol < 1024 {
-        bytes[symbol as usize]
-    } else {
-        256
-    }
+    bytes[(symbol % 1024) as usize] + symbol / 1024 * 1024
 }
 
 // The index of the first symbol that is no data symbol, or the length where there is none.

@@ -37,7 +37,7 @@ shared-slice-read-looked-up : tie.Need-shared-slice-read-looked-up Inv-loop μ-l
 shared-slice-read-looked-up c = search needs
 
 looked-up-requires : tie.Need-looked-up-requires Inv-loop μ-loop
-looked-up-requires c κs = c .before .before .before .before .pre .entry _
+looked-up-requires c κs = c .before .before .before .before .pre .entry _ (omega arith)
 
 returns : tie.Need-returns Inv-loop μ-loop
 returns c =

@@ -11,7 +11,7 @@ use Rattle.laws.proofs.Bytes.{length-numbers}
 use Rattle.laws.proofs.Searching.{stop, go-on, end}
 use Rattle.dvi.specs.Decoder.{isData}
 use Rattle.row.specs.Answer.{firstBad}
-use Rattle.row.specs.Lookup.{entryOf}
+use Rattle.row.specs.Lookup.{looked}
 use Rattle.row.specs.Wire.{symbolsIn}
 use Rattle.row.proofs.Lookups.{none-above, data-below}
 use Rattle.row.proofs.scan_stored.Statement.{statement}
@@ -37,13 +37,13 @@ symbol-at-requires : tie.Need-symbol-at-requires Inv-loop μ-loop
 symbol-at-requires c κs = search needs
 
 looked-up-requires : tie.Need-looked-up-requires Inv-loop μ-loop
-looked-up-requires c κs = c .before .before .before .before .pre .entry _
+looked-up-requires c κs = c .before .before .before .before .pre .entry _ (omega arith)
 
 returns : tie.Need-returns Inv-loop μ-loop
 returns c =
     let l = c .before .before .before .before .loop in
     let ss = symbolsIn (c .before .before .before .before .before .before .args .lent .now) in
-    let v = c .before .looked-up .ensures ∙ ap entryOf (c .before .before .symbol-at .ensures) in
+    let v = c .before .looked-up .ensures ∙ ap looked (c .before .before .symbol-at .ensures) in
     let e = none-above (getD ss (l .i) 0) (rw v at (c .if1 .taken)) in
     sym (l .inv .2 ∙ stop (bad ss) (l .i) _ (omega arith) (simp e))
 
@@ -57,7 +57,7 @@ loop-again : tie.Need-loop-again Inv-loop μ-loop
 loop-again c =
     let l = c .before .before .before .before .loop in
     let ss = symbolsIn (c .before .before .before .before .before .before .args .lent .now) in
-    let v = c .before .looked-up .ensures ∙ ap entryOf (c .before .before .symbol-at .ensures) in
+    let v = c .before .looked-up .ensures ∙ ap looked (c .before .before .symbol-at .ensures) in
     let e = data-below (getD ss (l .i) 0) (rw v at (c .if1 .left)) in
     (omega arith, l .inv .1, l .inv .2 ∙ go-on (bad ss) (l .i) _ (omega arith) (simp e))
 

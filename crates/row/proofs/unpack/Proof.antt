@@ -29,7 +29,7 @@ shared-slice-read-looked-up : tie.Need-shared-slice-read-looked-up Inv-loop μ-l
 shared-slice-read-looked-up c = search needs
 
 looked-up-requires : tie.Need-looked-up-requires Inv-loop μ-loop
-looked-up-requires c κs = c .before .before .before .before .before .pre .0 .entry _
+looked-up-requires c κs = c .before .before .before .before .before .pre .0 .entry _ (omega arith)
 
 cast-out : tie.Need-cast-out Inv-loop μ-loop
 cast-out c = search needs

@@ -9,7 +9,7 @@ use lib.ListN.{length, take, drop, getD, length-set}
 use Rattle.laws.proofs.Bytes.{length-numbers}
 use Rattle.dvi.specs.Decoder.{byteOf}
 use Rattle.dvi.specs.Row.{rowBytes}
-use Rattle.row.specs.Lookup.{entryOf}
+use Rattle.row.specs.Lookup.{looked}
 use Rattle.row.specs.Wire.{symbolsIn}
 use Rattle.row.proofs.Lookups.{scanned, byte-below, entry-of-data, unpacked-more, unpacked-all}
 use Rattle.row.proofs.unpack_stored.Statement.{statement}
@@ -29,7 +29,7 @@ symbol-at-requires : tie.Need-symbol-at-requires Inv-loop μ-loop
 symbol-at-requires c κs = search needs
 
 looked-up-requires : tie.Need-looked-up-requires Inv-loop μ-loop
-looked-up-requires c κs = c .before .before .before .before .before .pre .0 .entry _
+looked-up-requires c κs = c .before .before .before .before .before .pre .0 .entry _ (omega arith)
 
 cast-out : tie.Need-cast-out Inv-loop μ-loop
 cast-out c = search needs
@@ -53,7 +53,7 @@ loop-again c =
     let k : l .i < length (l .out) = omega arith in
     let e = scanned ss (a .pre .2 ∙ sym n) (l .i) h in
     let v : c .looked-up .result % 256 ≡ byteOf (getD ss (l .i) 0) =
-    ap (λ (x : ℕ). x % 256) (c .looked-up .ensures ∙ ap entryOf (c .before .symbol-at .ensures) ∙ entry-of-data _ e) ∙ mod-eq-of-lt (byte-below _ e) in
+    ap (λ (x : ℕ). x % 256) (c .looked-up .ensures ∙ ap looked (c .before .symbol-at .ensures) ∙ entry-of-data _ e) ∙ mod-eq-of-lt (byte-below _ e) in
     (simp length-set (omega arith), simp length-set (l .inv .1), unpacked-more ss (l .out) (l .i) _ h k v ∙ l .inv .2)
 
 same-length : tie.Need-same-length Inv-loop μ-loop
