@@ -13,12 +13,13 @@ use Rattle.laws.proofs.Bits.{bit-mod, bit-shr}
 use Rattle.laws.proofs.Digits.{numeral-agree, numeral-bit}
 use Rattle.laws.proofs.Finite.{below}
 use Rattle.laws.proofs.Swaps.{Swap, swap, swaps, sources, orderly, swaps-bit}
+use Rattle.laws.proofs.Tables.{made, made-at}
 use Rattle.laws.proofs.Truth.{and-left, and-right}
 use Rattle.dvi.specs.Lanes.{lanes}
 use Rattle.hdmi.specs.Terc4.{terc4}
 use Rattle.hdmi.specs.Island.{headerBit, subpacketBit, marker, across, dataWord}
-use Rattle.terc4.specs.Tables.{evens, odds}
-use Rattle.island.specs.Words.{transposed, Bytes, Pairs, Header, pairsOf, wordFrom}
+use Rattle.two_lanes.specs.Pairs.{evens, odds}
+use Rattle.island.specs.Words.{transposed, Bytes, Pairs, Header, laneSymbol, pairsOf, wordFrom}
 
 -- ---- the transposition
 
@@ -72,27 +73,32 @@ or-lanes a b c h =
     let e : lanes 0 b c ≡ y * 2 ^ 10 = omega arith in
     ap (bitOr a) e ∙ or-shifted-r y 10 a h ∙ omega arith
 
+-- lane 0's symbols, each at its place
+pub zero-at : (hv : ℕ) (zero : List ℕ) (n : ℕ) → zero ≡ made (laneSymbol hv) 0 4 → n < 4 → getD zero n 0 ≡ terc4 (hv + 4 * n)
+zero-at hv zero n e h = ap (λ (l : List ℕ). getD l n 0) e ∙ made-at (laneSymbol hv) 4 n h
+
 -- ---- one character
 
 module _ (p : List ℕ) (i j v : ℕ) (hj : j < 4) (pairs : Pairs p i v) where
-  pair : (k s o : ℕ) → k ≡ 4 * i + j → s < 4 → o < 2 → bit (2 * s + o) (pairsOf v k) ≡ subpacketBit p s (2 * k + o)
+  abbrev k : ℕ
+  k = 4 * i + j
+
+  pair : (s o : ℕ) → s < 4 → o < 2 → bit (2 * s + o) (pairsOf v j) ≡ subpacketBit p s (2 * k + o)
   unfolding Pairs subpacketBit
-  pair k s o e hs ho =
-      let a : k % 4 ≡ j = omega arith in
+  pair s o hs ho =
       let b : 2 * j + o ≡ (2 * k + o) % 8 = omega arith in
       let d : i ≡ (2 * k + o) / 8 = omega arith in
-      bit-mod (2 * s + o) 8 (v / 2 ^ (8 * (k % 4))) (omega arith) ∙ bit-shr (2 * s + o) (8 * (k % 4)) v
-      ∙ ap (λ (u : ℕ). bit (8 * u + (2 * s + o)) v) a ∙ pairs j s o hj hs ho
+      bit-mod (2 * s + o) 8 (v / 2 ^ (8 * j)) (omega arith) ∙ bit-shr (2 * s + o) (8 * j) v ∙ pairs j s o hj hs ho
       ∙ ap₂ (λ (x y : ℕ). bit x (getD p (4 + 8 * s + y) 0)) b d
 
-  pub word-of : (hv h k : ℕ) → k ≡ 4 * i + j → k < 32 → Header p h → wordFrom hv h v k ≡ dataWord hv p k
+  pub word-of : (hv h : ℕ) → k < 32 → Header p h → wordFrom hv (h / 2 ^ (4 * i)) v i j ≡ dataWord hv p k
   unfolding wordFrom dataWord Header
-  word-of hv h k e l head =
-      let x : ℕ = pairsOf v k in
+  word-of hv h l head =
+      let x : ℕ = pairsOf v j in
       let one : evens x ≡ across p (2 * k) =
       numeral-agree 1 (λ s. bit (2 * s) x) (λ s. subpacketBit p s (2 * k)) 0 4
-      (λ s a b. ap (λ (u : ℕ). bit u x) (omega arith) ∙ pair k s 0 e b (omega arith) ∙ ap (subpacketBit p s) (omega arith)) in
+      (λ s a b. ap (λ (u : ℕ). bit u x) (omega arith) ∙ pair s 0 b (omega arith) ∙ ap (subpacketBit p s) (omega arith)) in
       let two : odds x ≡ across p (2 * k + 1) =
-      numeral-agree 1 (λ s. bit (2 * s + 1) x) (λ s. subpacketBit p s (2 * k + 1)) 0 4 (λ s a b. pair k s 1 e b (omega arith)) in
-      ap₂ (λ (a b : ℕ). lanes (terc4 (hv + 4 * a + marker k)) (terc4 b) (terc4 (odds x))) (head k l) one
+      numeral-agree 1 (λ s. bit (2 * s + 1) x) (λ s. subpacketBit p s (2 * k + 1)) 0 4 (λ s a b. pair s 1 b (omega arith)) in
+      ap₂ (λ (a b : ℕ). lanes (terc4 (hv + 4 * a + marker k)) (terc4 b) (terc4 (odds x))) (bit-shr j (4 * i) h ∙ head k l) one
       ∙ ap (λ (b : ℕ). lanes (terc4 (hv + 4 * headerBit p k + marker k)) (terc4 (across p (2 * k))) (terc4 b)) two

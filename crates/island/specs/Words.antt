@@ -7,7 +7,7 @@ use Rattle.laws.specs.Bit.{bit}
 use Rattle.dvi.specs.Lanes.{lanes}
 use Rattle.hdmi.specs.Terc4.{terc4}
 use Rattle.hdmi.specs.Island.{headerBit, marker}
-use Rattle.terc4.specs.Tables.{evens, odds}
+use Rattle.two_lanes.specs.Pairs.{evens, odds}
 
 -- bit k of a transposed word of four bytes: pair j of byte s becomes pair s of byte j
 abbrev pub transposed : ℕ → ℕ
@@ -25,10 +25,14 @@ Pairs p i v = (j s o : ℕ) → j < 4 → s < 4 → o < 2 → bit (8 * j + (2 * 
 unfoldable pub Header : List ℕ → ℕ → Type 0
 Header p h = (k : ℕ) → k < 32 → bit k h ≡ headerBit p k
 
--- the byte of pairs of character k
-abbrev pub pairsOf : ℕ → ℕ → ℕ
-pairsOf v k = v / 2 ^ (8 * (k % 4)) % 256
+-- the symbols that lane 0 has with a sync pair: n is the header's bit, and 2 more with the marker
+abbrev pub laneSymbol : ℕ → ℕ → ℕ
+laneSymbol hv n = terc4 (hv + 4 * n)
 
--- character k from the header's word and the word of pairs
-unfoldable pub wordFrom : ℕ → ℕ → ℕ → ℕ → ℕ
-wordFrom hv h v k = lanes (terc4 (hv + 4 * bit k h + marker k)) (terc4 (evens (pairsOf v k))) (terc4 (odds (pairsOf v k)))
+-- byte j of a word of pairs
+abbrev pub pairsOf : ℕ → ℕ → ℕ
+pairsOf v j = v / 2 ^ (8 * j) % 256
+
+-- character 4 i + j from the header's bits behind the first 4 i and the word of pairs
+unfoldable pub wordFrom : ℕ → ℕ → ℕ → ℕ → ℕ → ℕ
+wordFrom hv h v i j = lanes (terc4 (hv + 4 * bit j h + marker (4 * i + j))) (terc4 (evens (pairsOf v j))) (terc4 (odds (pairsOf v j)))

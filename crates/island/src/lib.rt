@@ -6,11 +6,9 @@ ghost use Rattle.laws.specs.Bit.{bit};
 ghost use Rattle.laws.specs.Front.{Front};
 ghost use Rattle.laws.proofs.Tables.{made};
 ghost use Rattle.refusal.specs.Verdict.{verdict, kept};
-ghost use Rattle.hdmi.specs.Terc4.{terc4};
 ghost use Rattle.hdmi.specs.Island.{guardWord, marker, island};
-ghost use Rattle.terc4.specs.Tables.{twoLanes};
 ghost use Rattle.island.specs.Encode.{encodeAsks};
-ghost use Rattle.island.specs.Words.{transposed, Bytes, Pairs, Header, wordFrom};
+ghost use Rattle.island.specs.Words.{transposed, Bytes, Pairs, Header, laneSymbol, wordFrom};
 use refusal::Refusal;
 use refusal::Verdict;
 use symbol::Tmds3;
@@ -53,75 +51,75 @@ fn pairs(packet: &[u8], i: usize) -> u32
     transpose(gather(packet, 4 + i, 8))
 }
 
-// Lane 0's number at character k: the sync pair, the header's bit h, and the marker at each but the first.
-fn lane_zero(hv: usize, h: usize, k: usize) -> usize
-    requires { ⌜ (hv < 4) × (h < 2) ⌝ }
-    ensures { λ r. ⌜ (r ≡ hv + 4 * h + marker k) × (r < 16) ⌝ }
+// The four symbols that lane 0 has with a sync pair.
+fn lane_zero(hv: usize) -> [u16; 4]
+    requires { ⌜ hv < 4 ⌝ }
+    ensures { λ r. ⌜ r ≡ made (laneSymbol hv) 0 4 ⌝ }
 {
-    if k == 0 {
-        return hv + 4 * h;
-    }
-    hv + 4 * h + 8
+    let symbols = terc4::symbols();
+    [
+        symbols[hv],
+        symbols[hv + 4],
+        symbols[hv + 8],
+        symbols[hv + 12],
+    ]
 }
 
-// Character k, by the two tables.
-fn data_word(
-    symbols: &[u16; 16],
-    packed: &[u32; 256],
-    hv: usize,
-    header: u32,
-    pairs: u32,
-    k: usize,
-) -> Tmds3
-    requires { ⌜ (now symbols ≡ made terc4 0 16) × (now packed ≡ made twoLanes 0 256) × (hv < 4) × (k < 32) ⌝ }
-    ensures { λ r. ⌜ r .0 ≡ wordFrom hv header pairs k ⌝ }
+// Which of them stands at character k: the header's bit h, and the marker at each but the first.
+fn which(h: usize, k: usize) -> usize
+    requires { ⌜ h < 2 ⌝ }
+    ensures { λ r. ⌜ (4 * r ≡ 4 * h + marker k) × (r < 4) ⌝ }
 {
-    let zero = lane_zero(hv, ((header >> k) % 2) as usize, k);
-    let two = ((pairs >> (8 * (k % 4))) % 256) as usize;
-    Tmds3((symbols[zero] as u32) | packed[two])
+    if k == 0 {
+        return h;
+    }
+    h + 2
+}
+
+// Character 4 i + j, from the header's bits behind the first 4 i. Here and below hv, the sync pair of lane 0's symbols, is named for the statement.
+fn data_word(hv: usize, zero: &[u16; 4], bits: u32, pairs: u32, i: usize, j: usize) -> Tmds3
+    requires { ⌜ (hv < 4) × (now zero ≡ made (laneSymbol hv) 0 4) × (i < 8) × (j < 4) ⌝ }
+    ensures { λ r. ⌜ r .0 ≡ wordFrom hv bits pairs i j ⌝ }
+{
+    let n = which(((bits >> j) % 2) as usize, 4 * i + j);
+    let pair = ((pairs >> (8 * j)) % 256) as u8;
+    Tmds3((zero[n] as u32) | two_lanes::word(pair))
 }
 
 // The guard word of a sync pair.
-fn guard(symbols: &[u16; 16], hv: usize) -> Tmds3
-    requires { ⌜ (now symbols ≡ made terc4 0 16) × (hv < 4) ⌝ }
+fn guard(hv: usize, zero: &[u16; 4]) -> Tmds3
+    requires { ⌜ (hv < 4) × (now zero ≡ made (laneSymbol hv) 0 4) ⌝ }
     ensures { λ r. ⌜ r .0 ≡ guardWord hv ⌝ }
 {
-    Tmds3((symbols[12 + hv] as u32) | 0x1334cc00)
+    Tmds3((zero[3] as u32) | 0x1334cc00)
 }
 
-// Characters 4 i to 4 i + 3, where the words before them stand.
-fn put_four(
-    symbols: &[u16; 16],
-    packed: &[u32; 256],
-    hv: usize,
-    header: u32,
-    packet: &[u8],
-    i: usize,
-    words: &mut [u32],
-)
-    requires { ⌜ (now symbols ≡ made terc4 0 16) × (now packed ≡ made twoLanes 0 256) × (hv < 4) × (length (now packet) ≡ 36) × Header (now packet) header × (i < 8) × (length (now words) ≡ 36) × Front (island hv (now packet)) (2 + 4 * i) (now words) ⌝ }
+// Characters 4 i to 4 i + 3, where the words before them stand. `data_word` is called in one place: a table that is a match is inlined once.
+fn put_four(hv: usize, zero: &[u16; 4], header: u32, packet: &[u8], i: usize, words: &mut [u32])
+    requires { ⌜ (hv < 4) × (now zero ≡ made (laneSymbol hv) 0 4) × (length (now packet) ≡ 36) × Header (now packet) header × (i < 8) × (length (now words) ≡ 36) × Front (island hv (now packet)) (2 + 4 * i) (now words) ⌝ }
     ensures { λ _. ⌜ Front (island hv (now (packet .entry))) (2 + 4 * (i + 1)) (now (words .exit)) ⌝ }
 {
     let v = pairs(packet, i);
-    let k = 4 * i;
-    words[2 + k] = data_word(symbols, packed, hv, header, v, k).0;
-    words[3 + k] = data_word(symbols, packed, hv, header, v, k + 1).0;
-    words[4 + k] = data_word(symbols, packed, hv, header, v, k + 2).0;
-    words[5 + k] = data_word(symbols, packed, hv, header, v, k + 3).0;
+    let bits = header >> (4 * i);
+    let mut j = 0;
+    while j < 4 {
+        words[2 + 4 * i + j] = data_word(hv, zero, bits, v, i, j).0;
+        j += 1;
+    }
 }
 
 // The whole island.
-fn fill(symbols: &[u16; 16], packed: &[u32; 256], hv: usize, packet: &[u8], words: &mut [u32])
-    requires { ⌜ (now symbols ≡ made terc4 0 16) × (now packed ≡ made twoLanes 0 256) × (hv < 4) × (length (now packet) ≡ 36) × (length (now words) ≡ 36) ⌝ }
+fn fill(hv: usize, zero: &[u16; 4], packet: &[u8], words: &mut [u32])
+    requires { ⌜ (hv < 4) × (now zero ≡ made (laneSymbol hv) 0 4) × (length (now packet) ≡ 36) × (length (now words) ≡ 36) ⌝ }
     ensures { λ _. ⌜ now (words .exit) ≡ island hv (now (packet .entry)) ⌝ }
 {
-    let g = guard(symbols, hv).0;
+    let g = guard(hv, zero).0;
     let header = gather(packet, 0, 1);
     words[0] = g;
     words[1] = g;
     let mut i = 0;
     while i < 8 {
-        put_four(symbols, packed, hv, header, packet, i, words);
+        put_four(hv, zero, header, packet, i, words);
         i += 1;
     }
     words[34] = g;
@@ -142,8 +140,7 @@ pub fn encode(hv: u8, packet: &[u8], words: &mut [u32]) -> Verdict
     if 4 <= hv {
         return Verdict::Refused(Refusal::SyncPair);
     }
-    let symbols = terc4::symbols();
-    let packed = terc4::packed();
-    fill(&symbols, &packed, hv as usize, packet, words);
+    let zero = lane_zero(hv as usize);
+    fill(hv as usize, &zero, packet, words);
     Verdict::Fine
 }

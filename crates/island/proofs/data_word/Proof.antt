@@ -1,90 +1,93 @@
 -- `island::data_word` meets its contract.
 use mathlib.Core.Path.{ap, ap₂, _∙_}
-use Prim.Native.Nat.{ℕ}
+use Prim.Native.Nat.{ℕ, _+_, _*_}
 use native.Mathlib.Omega.{arith}
 use lib.Bits.{bitOr}
 use Rattle.laws.specs.Bit.{bit}
 use Rattle.dvi.specs.Lanes.{lanes}
 use Rattle.hdmi.specs.Terc4.{terc4}
 use Rattle.hdmi.proofs.Terc4.{terc4-lt}
-use Rattle.terc4.specs.Tables.{evens, odds, twoLanes}
+use Rattle.two_lanes.specs.Pairs.{evens, odds, twoLanes}
 use Rattle.island.specs.Words.{pairsOf, wordFrom}
-use Rattle.terc4.proofs.Lookup.{symbol-at, packed-at}
-use Rattle.island.proofs.Characters.{or-lanes}
+use Rattle.island.proofs.Characters.{or-lanes, zero-at}
 use borrow.Author.Needs.{needs}
 use Rattle.island.proofs.data_word.Statement.{statement}
 use Rattle.island.proofs.data_word.Tie as tie
 
-cast-lane-zero : tie.Need-cast-lane-zero
-cast-lane-zero c = search needs
+cast-which : tie.Need-cast-which
+cast-which c = search needs
 
-shr-lane-zero : tie.Need-shr-lane-zero
-shr-lane-zero c = search needs
+shr-which : tie.Need-shr-which
+shr-which c = search needs
 
-cast-lane-zero-2 : tie.Need-cast-lane-zero-2
-cast-lane-zero-2 c = search needs
+cast-which-2 : tie.Need-cast-which-2
+cast-which-2 c = search needs
 
-lane-zero-requires : tie.Need-lane-zero-requires
-lane-zero-requires c κs = search needs
+mul-which : tie.Need-mul-which
+mul-which c = search needs
 
-mul-two : tie.Need-mul-two
-mul-two c = search needs
+add-which : tie.Need-add-which
+add-which c = search needs
 
-cast-two : tie.Need-cast-two
-cast-two c = search needs
+which-requires : tie.Need-which-requires
+which-requires c = search needs
 
-shr-two : tie.Need-shr-two
-shr-two c = search needs
+mul-pair : tie.Need-mul-pair
+mul-pair c = search needs
 
-cast-two-2 : tie.Need-cast-two-2
-cast-two-2 c = search needs
+cast-pair : tie.Need-cast-pair
+cast-pair c = search needs
 
-mul-t12 : tie.Need-mul-t12
-mul-t12 c = search needs
+shr-pair : tie.Need-shr-pair
+shr-pair c = search needs
 
-element-copy-out-t16 : tie.Need-element-copy-out-t16
-element-copy-out-t16 c = search needs
-
-cast-t10 : tie.Need-cast-t10
-cast-t10 c =
-    let start = c .before .before in
-    let n : ℕ = c .before .lane-zero .result in
-    let e = symbol-at (start .args .symbols .now) n (start .pre .0) (c .before .lane-zero .ensures .1) in
-    record { fits = omega (arith, e, terc4-lt n (c .before .lane-zero .ensures .1)) }
+cast-pair-2 : tie.Need-cast-pair-2
+cast-pair-2 c = search needs
 
 mul-t13 : tie.Need-mul-t13
 mul-t13 c = search needs
 
-element-copy-out-t11 : tie.Need-element-copy-out-t11
-element-copy-out-t11 c = search needs
+element-copy-out-t17 : tie.Need-element-copy-out-t17
+element-copy-out-t17 c = search needs
+
+cast-t11 : tie.Need-cast-t11
+cast-t11 c =
+    let start = c .before .before in
+    let n : ℕ = c .before .which .result in
+    let e = zero-at (start .args .hv) (start .args .zero .now) n (start .pre .1) (c .before .which .ensures .1) in
+    record { fits = omega (arith, e, terc4-lt (start .args .hv + 4 * n) (omega arith)) }
+
+word-requires : tie.Need-word-requires
+word-requires c κs = search needs
 
 returns : tie.Need-returns
 unfolding wordFrom twoLanes bit
 returns c =
     let start = c .before .before .before in
     let a = start .args in
-    let zero = c .before .before .lane-zero in
-    let n : ℕ = zero .result in
-    let x : ℕ = pairsOf (a .pairs) (a .k) in
-    ap₂ bitOr (symbol-at (a .symbols .now) n (start .pre .0) (zero .ensures .1)) (packed-at (a .packed .now) x (start .pre .1) (omega arith))
-    ∙ or-lanes (terc4 n) (terc4 (evens x)) (terc4 (odds x)) (terc4-lt n (zero .ensures .1))
-    ∙ ap (λ (m : ℕ). lanes (terc4 m) (terc4 (evens x)) (terc4 (odds x))) (zero .ensures .0)
+    let n : ℕ = c .before .before .which .result in
+    let s : ℕ = a .hv + 4 * n in
+    let x : ℕ = pairsOf (a .pairs) (a .j) in
+    ap₂ bitOr (zero-at (a .hv) (a .zero .now) n (start .pre .1) (c .before .before .which .ensures .1)) (c .word .ensures)
+    ∙ or-lanes (terc4 s) (terc4 (evens x)) (terc4 (odds x)) (terc4-lt s (omega arith))
+    ∙ ap (λ (m : ℕ). lanes (terc4 m) (terc4 (evens x)) (terc4 (odds x))) (omega (arith, c .before .before .which .ensures .0))
 
 pub data-word-spec : {M : Type 1} → statement M
 data-word-spec =
     tie.close
     (tie.spec
-    cast-lane-zero
-    shr-lane-zero
-    cast-lane-zero-2
-    lane-zero-requires
-    mul-two
-    cast-two
-    shr-two
-    cast-two-2
-    mul-t12
-    element-copy-out-t16
-    cast-t10
+    cast-which
+    shr-which
+    cast-which-2
+    mul-which
+    add-which
+    which-requires
+    mul-pair
+    cast-pair
+    shr-pair
+    cast-pair-2
     mul-t13
-    element-copy-out-t11
+    element-copy-out-t17
+    cast-t11
+    word-requires
     returns)

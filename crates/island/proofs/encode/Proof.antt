@@ -15,11 +15,8 @@ returns-3 : tie.Need-returns-3
 returns-3 c =
     simp (eq-eqb _ _ (c .before .before .if1 .left), eq-eqb _ _ (c .before .if2 .left), le-ltb _ _ (c .if3 .taken)) (refl, refl)
 
-symbols-requires : tie.Need-symbols-requires
-symbols-requires c κs = search needs
-
-packed-requires : tie.Need-packed-requires
-packed-requires c κs = search needs
+lane-zero-requires : tie.Need-lane-zero-requires
+lane-zero-requires c κs = search needs
 
 fill-requires : tie.Need-fill-requires
 fill-requires c κs = search needs
@@ -29,7 +26,7 @@ same-length c = search needs
 
 returns-4 : tie.Need-returns-4
 returns-4 c =
-    let t = c .before .before .before .before .before .before .before .before in
+    let t = c .before .before .before .before .before .before in
     simp (eq-eqb _ _ (t .before .before .if1 .left), eq-eqb _ _ (t .before .if2 .left), lt-ltb _ _ (t .if3 .left))
     (refl, c .before .before .fill .ensures)
 
@@ -40,8 +37,7 @@ encode-spec =
     returns
     returns-2
     returns-3
-    symbols-requires
-    packed-requires
+    lane-zero-requires
     fill-requires
     same-length
     returns-4)

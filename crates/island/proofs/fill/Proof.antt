@@ -15,11 +15,11 @@ use Rattle.island.proofs.fill.Statement.{statement}
 use Rattle.island.proofs.fill.Tie as tie
 
 abbrev Inv-loop : tie.InvT-loop
-Inv-loop symbols packed hv packet words₀ g header i₀ words i =
+Inv-loop hv zero packet words₀ g header i₀ words i =
     (i ≤ 8) × (length words ≡ 36) × Front (island hv packet) (2 + 4 * i) words
 
 abbrev μ-loop : tie.MeasureT-loop
-μ-loop symbols packed hv packet words₀ g header i₀ words i = 8 - i
+μ-loop hv zero packet words₀ g header i₀ words i = 8 - i
 
 guard-requires : tie.Need-guard-requires Inv-loop μ-loop
 guard-requires c κs = search needs
@@ -48,7 +48,7 @@ put-four-requires : tie.Need-put-four-requires Inv-loop μ-loop
 put-four-requires c κs =
     let start = c .before .before .before .before .before .before .before in
     let l = c .before .before .loop in
-    (start .pre .0, start .pre .1, start .pre .2, start .pre .3, header-of (start .args .packet .now) _ (c .before .before .before .gather .ensures), omega arith, l .inv .1, l .inv .2)
+    (start .pre .0, start .pre .1, start .pre .2, header-of (start .args .packet .now) _ (c .before .before .before .gather .ensures), omega arith, l .inv .1, l .inv .2)
 
 add-i : tie.Need-add-i Inv-loop μ-loop
 add-i c = search needs

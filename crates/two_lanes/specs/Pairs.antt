@@ -1,4 +1,4 @@
--- The rule of the packed words.
+-- Lanes 1 and 2 of an island's character by the byte of its bit pairs, that of subpacket s at bit 2 s.
 use Prim.Native.Nat.{ℕ, _+_, _*_}
 use Rattle.laws.specs.Bit.{bit}
 use Rattle.laws.specs.Digits.{numeral}
