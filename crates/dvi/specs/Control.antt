@@ -13,6 +13,6 @@ abbrev pub level : Bool → ℕ
 level true = 1
 level false = 0
 
--- the number of the control symbol for the pairOf C0 and C1
+-- the number of the control symbol for the levels of C0 and C1
 abbrev pub pairOf : Bool → Bool → ℕ
 pairOf c0 c1 = level c0 + 2 * level c1
