@@ -136,7 +136,7 @@ fn frame_block(samples: &[i16], s: usize) -> u64
         let r = sample_bits(samples[i + 1]);
         return frame_word(l as u32, r as u32);
     }
-    0
+    0u64
 }
 
 fn sample_bits(x: i16) -> u16

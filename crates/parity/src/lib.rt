@@ -379,18 +379,18 @@ fn sealed_word(w: u64) -> u64
 }
 
 // A block of eight bytes as one word, the first byte in the lowest bits.
-pub fn word_of(bytes: [u8; 8]) -> u64
-    ensures { λ r. ⌜ lowFirst 8 r ≡ bytes ⌝ }
+pub fn word_of(block: [u8; 8]) -> u64
+    ensures { λ r. ⌜ lowFirst 8 r ≡ block ⌝ }
 {
     word(
-        bytes[0],
-        bytes[1],
-        bytes[2],
-        bytes[3],
-        bytes[4],
-        bytes[5],
-        bytes[6],
-        bytes[7],
+        block[0],
+        block[1],
+        block[2],
+        block[3],
+        block[4],
+        block[5],
+        block[6],
+        block[7],
     )
 }
 
