@@ -34,6 +34,10 @@ pub joined-packet : (h : List ℕ) (f : ℕ → List ℕ) {e a b c d : List ℕ}
 unfolding packetOf
 joined-packet h f ee ea eb ec ed = rw (ee, ea, eb, ec, ed)
 
+-- the same blocks make the same packet
+pub same-joined : (h : List ℕ) {a b c d e f g i : List ℕ} → a ≡ e → b ≡ f → c ≡ g → d ≡ i → h ++ (a ++ (b ++ (c ++ d))) ≡ h ++ (e ++ (f ++ (g ++ i)))
+same-joined h ea eb ec ed = rw (ea, eb, ec, ed)
+
 -- zeros have the parity byte 0
 pub zero-block : replicate 8 0 ≡ withParity (replicate 7 0)
 unfolding withParity parity sent

@@ -1,6 +1,12 @@
 -- `blocks::join`: the blocks as words.
-use mathlib.Core.Path.{_∙_, refl}
+use mathlib.Core.Path.{ap, _∙_}
+use mathlib.Core.List.{List}
+use Prim.Native.Nat.{ℕ}
+use denote.Ref.{now}
 use borrow.Author.Needs.{needs}
+use Rattle.refusal.specs.Verdict.{verdict, kept}
+use Rattle.blocks.specs.Asks.{packetAsks}
+use Rattle.blocks.proofs.Laying.{same-joined}
 use Rattle.blocks.proofs.join.Statement.{statement}
 use Rattle.blocks.proofs.join.Tie as tie
 
@@ -29,7 +35,13 @@ returns c =
     let w = x .before in
     let v = w .before in
     let u = v .before in
-    (k .join-words .ensures .0, k .join-words .ensures .1 ∙ rw (← u .word-of .ensures, ← v .word-of2 .ensures, ← w .word-of3 .ensures, ← x .word-of4 .ensures))
+    let a = u .before .before .args in
+    let p = now (a .packet) in (
+      k .join-words .ensures .0,
+      k .join-words .ensures .1
+          ∙ ap (λ (new : List ℕ). kept (verdict (packetAsks p)) new p)
+          (same-joined (a .h) (u .word-of .ensures) (v .word-of2 .ensures) (w .word-of3 .ensures) (x .word-of4 .ensures)),
+    )
 
 pub join-spec : {M : Type 1} → statement M
 join-spec =
