@@ -1,4 +1,5 @@
 pub mod Counts
+pub mod Digits
 pub mod Edges
-pub mod Folding
+pub mod Headers
 pub mod Samples

@@ -4,8 +4,9 @@ use refusal::Verdict;
 ghost use mathlib.Core.Path.{_≡_};
 ghost use mathlib.Core.List.{[], _∷_, _++_};
 ghost use Prim.Native.Nat.{_+_, _≤_};
-ghost use lib.ListN.{length};
-ghost use lib.Seq.{paste};
+ghost use lib.ListN.{length, getD};
+ghost use lib.Seq.{sets};
+ghost use Rattle.laws.specs.Bytes.{lowFirst};
 ghost use Rattle.refusal.specs.Verdict.{verdict, kept};
 ghost use Rattle.hdmi.specs.Parity.{withParity};
 ghost use Rattle.blocks.specs.Asks.{packetAsks};
@@ -44,6 +45,17 @@ pub fn join(
 ) -> Verdict
     ensures { λ r. ⌜ (r ≡ verdict (packetAsks (now (packet .entry)))) × (now (packet .exit) ≡ kept (verdict (packetAsks (now (packet .entry)))) (h ++ (a ++ (b ++ (c ++ d)))) (now (packet .entry))) ⌝ }
 {
+    let u = parity::word_of(a);
+    let v = parity::word_of(b);
+    let w = parity::word_of(c);
+    let x = parity::word_of(d);
+    join_words(packet, h, u, v, w, x)
+}
+
+// The same with each subpacket a word, its first byte in the lowest bits.
+pub fn join_words(packet: &mut [u8], h: [u8; 4], a: u64, b: u64, c: u64, d: u64) -> Verdict
+    ensures { λ r. ⌜ (r ≡ verdict (packetAsks (now (packet .entry)))) × (now (packet .exit) ≡ kept (verdict (packetAsks (now (packet .entry)))) (h ++ (lowFirst 8 a ++ (lowFirst 8 b ++ (lowFirst 8 c ++ lowFirst 8 d)))) (now (packet .entry))) ⌝ }
+{
     if packet.len() != 36 {
         return Verdict::Refused(Refusal::Length);
     }
@@ -51,25 +63,38 @@ pub fn join(
     Verdict::Fine
 }
 
-fn put(packet: &mut [u8], h: [u8; 4], a: [u8; 8], b: [u8; 8], c: [u8; 8], d: [u8; 8])
+fn put(packet: &mut [u8], h: [u8; 4], a: u64, b: u64, c: u64, d: u64)
     requires { ⌜ length (now packet) ≡ 36 ⌝ }
-    ensures { λ _. ⌜ now (packet .exit) ≡ h ++ (a ++ (b ++ (c ++ d))) ⌝ }
+    ensures { λ _. ⌜ now (packet .exit) ≡ h ++ (lowFirst 8 a ++ (lowFirst 8 b ++ (lowFirst 8 c ++ lowFirst 8 d))) ⌝ }
 {
-    lay(packet, 0, &h);
-    lay(packet, 4, &a);
-    lay(packet, 12, &b);
-    lay(packet, 20, &c);
-    lay(packet, 28, &d);
+    head(packet, h);
+    lay(packet, 4, a);
+    lay(packet, 12, b);
+    lay(packet, 20, c);
+    lay(packet, 28, d);
 }
 
-// The bytes of a block, from a place of the packet on.
-fn lay(packet: &mut [u8], at: usize, bytes: &[u8])
-    requires { ⌜ at + length (now bytes) ≤ length (now packet) ⌝ }
-    ensures { λ _. ⌜ now (packet .exit) ≡ paste (now (packet .entry)) at (now (bytes .entry)) (length (now (bytes .entry))) ⌝ }
+fn head(packet: &mut [u8], h: [u8; 4])
+    requires { ⌜ length (now packet) ≡ 36 ⌝ }
+    ensures { λ _. ⌜ now (packet .exit) ≡ sets (now (packet .entry)) 0 (getD h 0 0 ∷ getD h 1 0 ∷ getD h 2 0 ∷ getD h 3 0 ∷ []) ⌝ }
 {
-    let mut j = 0;
-    while j < bytes.len() {
-        packet[at + j] = bytes[j];
-        j += 1;
-    }
+    packet[0] = h[0];
+    packet[1] = h[1];
+    packet[2] = h[2];
+    packet[3] = h[3];
+}
+
+// The bytes of a word, from a place of the packet on. With nothing between them the eight stores become one.
+fn lay(packet: &mut [u8], at: usize, w: u64)
+    requires { ⌜ at + 8 ≤ length (now packet) ⌝ }
+    ensures { λ _. ⌜ now (packet .exit) ≡ sets (now (packet .entry)) at (lowFirst 8 w) ⌝ }
+{
+    packet[at] = (w % 256) as u8;
+    packet[at + 1] = (w / 256 % 256) as u8;
+    packet[at + 2] = (w / 256 / 256 % 256) as u8;
+    packet[at + 3] = (w / 256 / 256 / 256 % 256) as u8;
+    packet[at + 4] = (w / 256 / 256 / 256 / 256 % 256) as u8;
+    packet[at + 5] = (w / 256 / 256 / 256 / 256 / 256 % 256) as u8;
+    packet[at + 6] = (w / 256 / 256 / 256 / 256 / 256 / 256 % 256) as u8;
+    packet[at + 7] = (w / 256 / 256 / 256 / 256 / 256 / 256 / 256 % 256) as u8;
 }

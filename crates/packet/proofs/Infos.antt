@@ -5,7 +5,8 @@ use Prim.Native.Nat.{ℕ, _+_, _-_, _*_, _%_}
 use native.Mathlib.Omega.{arith}
 use lib.ListN.{replicate, take, drop}
 use Rattle.hdmi.specs.Parity.{parity, withParity}
-use Rattle.hdmi.specs.Info.{sum, checksum, infoBytes, infoFrame}
+use Rattle.hdmi.specs.Info.{sum, infoBytes, infoFrame}
+use Rattle.packet.specs.Block.{infoBlock}
 use Rattle.blocks.proofs.Laying.{zero-block, header-with, joined-packet}
 
 module _ (kind version size check header a b c d : ℕ) where
@@ -15,8 +16,7 @@ module _ (kind version size check header a b c d : ℕ) where
   abbrev bytes : List ℕ
   bytes = a ∷ b ∷ c ∷ d ∷ []
 
-  pub info-joined : (block : List ℕ) → parity h ≡ check → header ≡ kind + version + size
-      → block ≡ withParity (checksum (header ∷ bytes) ∷ a ∷ b ∷ c ∷ d ∷ 0 ∷ 0 ∷ [])
+  pub info-joined : (block : List ℕ) → parity h ≡ check → header ≡ kind + version + size → block ≡ infoBlock header a b c d
       → (h ++ (check ∷ [])) ++ (block ++ (replicate 8 0 ++ (replicate 8 0 ++ replicate 8 0))) ≡ infoFrame h bytes
   unfolding infoFrame
   info-joined block eh es eb =

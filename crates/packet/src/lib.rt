@@ -16,12 +16,11 @@ use fields::VideoCodeChoice;
 use refusal::Refusal;
 use refusal::Verdict;
 ghost use mathlib.Core.Path.{_≡_};
-ghost use mathlib.Core.List.{[], _∷_};
-ghost use Prim.Native.Nat.{_≤_};
+ghost use Prim.Native.Nat.{_+_, _*_, _≤_};
+ghost use Rattle.laws.specs.Bytes.{lowFirst};
 ghost use Rattle.refusal.specs.Verdict.{verdict, kept};
-ghost use Rattle.hdmi.specs.Parity.{withParity};
 ghost use Rattle.hdmi.specs.Clock.{clockPacket};
-ghost use Rattle.hdmi.specs.Info.{checksum, frequencyCode, audioInfoFrame, aviInfoFrame};
+ghost use Rattle.hdmi.specs.Info.{frequencyCode, activePresent, audioInfoFrame, aviInfoFrame};
 ghost use Rattle.fields.specs.ScanInfo.{scanNumber};
 ghost use Rattle.fields.specs.PixelFormat.{pixelNumber};
 ghost use Rattle.fields.specs.Colorimetry.{colorNumber};
@@ -30,7 +29,8 @@ ghost use Rattle.fields.specs.ActiveFormatAspectRatio.{activeNumber};
 ghost use Rattle.fields.specs.QuantizationRange.{quantizationNumber};
 ghost use Rattle.fields.specs.VideoCode.{codeNumber};
 ghost use Rattle.blocks.specs.Asks.{packetAsks};
-ghost use Rattle.packet.specs.Asks.{clockAsks, aviAsks};
+ghost use Rattle.packet.specs.Asks.{clockAsks, every, aviTests, aviAsks};
+ghost use Rattle.packet.specs.Block.{infoBlock};
 
 // Audio clock regeneration: CTS and N, the same in each subpacket.
 pub fn set_audio_clock_regeneration(packet: &mut [u8], cts: u32, n: u32) -> Verdict
@@ -45,7 +45,7 @@ pub fn set_audio_clock_regeneration(packet: &mut [u8], cts: u32, n: u32) -> Verd
     if n >= 1048576 {
         return Verdict::Refused(Refusal::ClockValue);
     }
-    let block = blocks::subpacket(
+    let block = parity::subpacket_word(
         0,
         (cts / 65536) as u8,
         (cts / 256 % 256) as u8,
@@ -54,7 +54,7 @@ pub fn set_audio_clock_regeneration(packet: &mut [u8], cts: u32, n: u32) -> Verd
         (n / 256 % 256) as u8,
         (n % 256) as u8,
     );
-    blocks::join(packet, [1, 0, 0, 0x4a], block, block, block, block)
+    blocks::join_words(packet, [1, 0, 0, 0x4a], block, block, block, block)
 }
 
 // Audio info: two channels of 16 bits, at this rate.
@@ -65,8 +65,7 @@ pub fn set_audio_info_frame(packet: &mut [u8], rate: u32) -> Verdict
         return Verdict::Refused(Refusal::Length);
     }
     let block = info_block(143, 0x11, 1 + 4 * frequency_code(rate), 0, 0);
-    let none = [0u8; 8];
-    blocks::join(packet, [0x84, 1, 10, 0x4a], block, none, none, none)
+    blocks::join_words(packet, [0x84, 1, 10, 0x4a], block, 0, 0, 0)
 }
 
 fn frequency_code(rate: u32) -> u8
@@ -97,37 +96,48 @@ pub fn set_avi_info_frame(
     if packet.len() != 36 {
         return Verdict::Refused(Refusal::Length);
     }
-    let ScanInfoChoice::Listed(scan) = ScanInfo::listed(s) else {
+    if !all_listed(s, y, c, m, r, q, v) {
         return Verdict::Refused(Refusal::Unlisted);
+    }
+    let block = avi_block(s, y, c, m, r, active_flag(r), q, v);
+    blocks::join_words(packet, [0x82, 2, 13, 0xe4], block, 0, 0, 0)
+}
+
+// Whether each field's number is one of its list.
+fn all_listed(s: u32, y: u32, c: u32, m: u32, r: u32, q: u32, v: u32) -> bool
+    ensures { λ k. ⌜ k ≡ every (aviTests s y c m r q v) ⌝ }
+{
+    let ScanInfoChoice::Listed(scan) = ScanInfo::listed(s) else {
+        return false;
     };
     let PixelFormatChoice::Listed(pixel) = PixelFormat::listed(y) else {
-        return Verdict::Refused(Refusal::Unlisted);
+        return false;
     };
     let ColorimetryChoice::Listed(color) = Colorimetry::listed(c) else {
-        return Verdict::Refused(Refusal::Unlisted);
+        return false;
     };
     let PictureAspectRatioChoice::Listed(picture) = PictureAspectRatio::listed(m) else {
-        return Verdict::Refused(Refusal::Unlisted);
+        return false;
     };
     let ActiveFormatAspectRatioChoice::Listed(active) = ActiveFormatAspectRatio::listed(r) else {
-        return Verdict::Refused(Refusal::Unlisted);
+        return false;
     };
     let QuantizationRangeChoice::Listed(quantization) = QuantizationRange::listed(q) else {
-        return Verdict::Refused(Refusal::Unlisted);
+        return false;
     };
     let VideoCodeChoice::Listed(code) = VideoCode::listed(v) else {
-        return Verdict::Refused(Refusal::Unlisted);
+        return false;
     };
-    set_avi_fields(
-        packet,
-        scan,
-        pixel,
-        color,
-        picture,
-        active,
-        quantization,
-        code,
-    )
+    true
+}
+
+fn active_flag(r: u32) -> u32
+    ensures { λ a. ⌜ (a ≡ activePresent r) × (a ≤ 1) ⌝ }
+{
+    if r == 0 {
+        return 0;
+    }
+    1
 }
 
 // AVI info from fields.
@@ -146,18 +156,34 @@ pub fn set_avi_fields(
     if packet.len() != 36 {
         return Verdict::Refused(Refusal::Length);
     }
-    let b1 = s.number() + 16 * r.present() + 32 * y.number();
-    let b2 = r.number() + 16 * m.number() + 64 * c.number();
-    let block = info_block(145, b1, b2, 4 * q.number(), v.number());
-    let none = [0u8; 8];
-    blocks::join(packet, [0x82, 2, 13, 0xe4], block, none, none, none)
+    let block = avi_block(
+        s.number() as u32,
+        y.number() as u32,
+        c.number() as u32,
+        m.number() as u32,
+        r.number() as u32,
+        r.present() as u32,
+        q.number() as u32,
+        v.number() as u32,
+    );
+    blocks::join_words(packet, [0x82, 2, 13, 0xe4], block, 0, 0, 0)
+}
+
+// Subpacket 0 of the AVI info frame. Here `a` says whether r says anything.
+fn avi_block(s: u32, y: u32, c: u32, m: u32, r: u32, a: u32, q: u32, v: u32) -> u64
+    requires { ⌜ (s ≤ 2) × (y ≤ 2) × (c ≤ 3) × (m ≤ 2) × (r ≤ 11) × (a ≤ 1) × (q ≤ 2) × (v ≤ 2) ⌝ }
+    ensures { λ w. ⌜ lowFirst 8 w ≡ infoBlock 145 (s + 16 * a + 32 * y) (r + 16 * m + 64 * c) (4 * q) v ⌝ }
+{
+    let b1 = s + 16 * a + 32 * y;
+    let b2 = r + 16 * m + 64 * c;
+    info_block(145, b1 as u8, b2 as u8, (4 * q) as u8, v as u8)
 }
 
 // Subpacket 0 of an info frame whose data bytes are 0 from the fifth on. The header's three bytes come in by their sum alone.
-fn info_block(header: u8, a: u8, b: u8, c: u8, d: u8) -> [u8; 8]
-    ensures { λ r. ⌜ r ≡ withParity (checksum (header ∷ a ∷ b ∷ c ∷ d ∷ []) ∷ a ∷ b ∷ c ∷ d ∷ 0 ∷ 0 ∷ []) ⌝ }
+fn info_block(header: u8, a: u8, b: u8, c: u8, d: u8) -> u64
+    ensures { λ r. ⌜ lowFirst 8 r ≡ infoBlock header a b c d ⌝ }
 {
     let sum = header as u32 + a as u32 + b as u32 + c as u32 + d as u32;
     let check = ((256 - sum % 256) % 256) as u8;
-    blocks::subpacket(check, a, b, c, d, 0, 0)
+    parity::subpacket_word(check, a, b, c, d, 0, 0)
 }

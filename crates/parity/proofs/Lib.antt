@@ -1,2 +1,5 @@
+pub mod Armed
 pub mod Division
+pub mod Running
+pub mod Sealing
 pub mod Stores

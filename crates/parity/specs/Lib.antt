@@ -1,3 +1,4 @@
+pub mod Arms
 pub mod Seal
 pub mod Steps
 pub mod Word

@@ -1,4 +1,4 @@
--- `audio::frame_block`: the bits of both samples and their status where there is a frame, else zeros.
+-- `audio::frame_block`: the word of both samples where there is a frame, else zeros.
 use mathlib.Core.Path.{refl, _∙_}
 use native.Mathlib.Omega.{arith}
 use denote.Ref.{now}
@@ -37,34 +37,24 @@ shared-slice-copy-out-sample-bits-2 c = search needs
 sample-bits-requires-2 : tie.Need-sample-bits-requires-2
 sample-bits-requires-2 c κs = search needs
 
-cast-subpacket : tie.Need-cast-subpacket
-cast-subpacket c = search needs
+cast-frame-word : tie.Need-cast-frame-word
+cast-frame-word c = search needs
 
-cast-subpacket-2 : tie.Need-cast-subpacket-2
-cast-subpacket-2 c = search needs
+cast-frame-word-2 : tie.Need-cast-frame-word-2
+cast-frame-word-2 c = search needs
 
-cast-subpacket-3 : tie.Need-cast-subpacket-3
-cast-subpacket-3 c = search needs
-
-cast-subpacket-4 : tie.Need-cast-subpacket-4
-cast-subpacket-4 c = search needs
-
-status-bits-requires : tie.Need-status-bits-requires
-status-bits-requires c κs = search needs
-
-subpacket-requires : tie.Need-subpacket-requires
-subpacket-requires c κs = search needs
+frame-word-requires : tie.Need-frame-word-requires
+frame-word-requires c κs = search needs
 
 returns : tie.Need-returns
 unfolding frame
 returns c =
-    let s = c .before in
-    let b2 = s .before in
+    let b2 = c .before in
     let b1 = b2 .before .before in
     let a = b1 .before .before .before .args in
     let l = rw (read-back _ (b1 .before .sample-bits-arg .given)) at (b1 .sample-bits .ensures) in
     let r = rw (read-back _ (b2 .before .sample-bits-arg2 .given)) at (b2 .sample-bits2 .ensures) in
-    c .subpacket .ensures ∙ rw (lt-ltb (a .s) (frames (now (a .samples))) (omega arith), s .status-bits .ensures, l, r)
+    c .frame-word .ensures ∙ rw (lt-ltb (a .s) (frames (now (a .samples))) (omega arith), l, r)
 
 returns-2 : tie.Need-returns-2
 returns-2 c =
@@ -84,11 +74,8 @@ frame-block-spec =
     mul-sample-bits-2
     shared-slice-copy-out-sample-bits-2
     sample-bits-requires-2
-    cast-subpacket
-    cast-subpacket-2
-    cast-subpacket-3
-    cast-subpacket-4
-    status-bits-requires
-    subpacket-requires
+    cast-frame-word
+    cast-frame-word-2
+    frame-word-requires
     returns
     returns-2)

@@ -1,73 +1,122 @@
--- `blocks::lay`: of the bytes, the first j stand at their place.
-use mathlib.Core.Path.{_≡_, sym, ap, _∙_}
-use mathlib.Core.List.{List}
-use Prim.Native.Nat.{ℕ, _+_, _-_, _≤_}
+-- `blocks::lay`: a word's eight bytes, the low one first.
+use mathlib.Core.Path.{_≡_}
+use Prim.Native.Nat.{suc, _+_}
 use native.Mathlib.Numerals.{add-one}
 use native.Mathlib.Omega.{arith}
-use denote.Ref.{now}
 use borrow.Author.Needs.{needs}
-use lib.ListN.{length, getD, set, length-set}
-use lib.Seq.{paste, paste-zero, paste-suc}
+use lib.ListN.{length-set}
 use Rattle.blocks.proofs.lay.Statement.{statement}
 use Rattle.blocks.proofs.lay.Tie as tie
 
-abbrev Inv-loop : tie.InvT-loop
-Inv-loop packet₀ at bytes j₀ packet j = (j ≤ length bytes) × (length packet ≡ length packet₀) × (packet ≡ paste packet₀ at bytes j)
+cast-packet : tie.Need-cast-packet
+cast-packet c = search needs
 
-abbrev μ-loop : tie.MeasureT-loop
-μ-loop packet₀ at bytes j₀ packet j = length bytes - j
+slice-write-packet : tie.Need-slice-write-packet
+slice-write-packet c = search needs
 
-loop-holds : tie.Need-loop-holds Inv-loop μ-loop
-loop-holds c = let a = c .args in (search needs, search needs, paste-zero (now (a .packet)) (a .at) (now (a .bytes)))
+cast-packet-2 : tie.Need-cast-packet-2
+cast-packet-2 c = search needs
 
-shared-slice-read-packet : tie.Need-shared-slice-read-packet Inv-loop μ-loop
-shared-slice-read-packet c = omega arith
+add-packet : tie.Need-add-packet
+add-packet c = search needs
 
-add-packet : tie.Need-add-packet Inv-loop μ-loop
-add-packet c = omega arith
+slice-write-packet-2 : tie.Need-slice-write-packet-2
+slice-write-packet-2 c = simp length-set (omega arith)
 
-slice-write-packet : tie.Need-slice-write-packet Inv-loop μ-loop
-slice-write-packet c = omega arith
+cast-packet-3 : tie.Need-cast-packet-3
+cast-packet-3 c = search needs
 
-add-j : tie.Need-add-j Inv-loop μ-loop
-add-j c = omega arith
+add-packet-2 : tie.Need-add-packet-2
+add-packet-2 c = search needs
 
-loop-less : tie.Need-loop-less Inv-loop μ-loop
-loop-less c = omega arith
+slice-write-packet-3 : tie.Need-slice-write-packet-3
+slice-write-packet-3 c = simp length-set (omega arith)
 
-loop-again : tie.Need-loop-again Inv-loop μ-loop
-loop-again c =
-    let l = c .before .before .loop in
-    let a = c .before .before .before .args in (
-      omega arith,
-      simp length-set (omega arith),
-      ap (λ (p : List ℕ). set p (a .at + l .j) (getD (now (a .bytes)) (l .j) 0)) (l .inv .2)
-          ∙ paste-suc (now (a .packet)) (a .at) (now (a .bytes)) (l .j) 0 (omega arith) (omega arith)
-          ∙ ap (paste (now (a .packet)) (a .at) (now (a .bytes))) (sym (add-one (l .j))),
-    )
+cast-packet-4 : tie.Need-cast-packet-4
+cast-packet-4 c = search needs
 
-same-length : tie.Need-same-length Inv-loop μ-loop
-same-length c = search needs
+add-packet-3 : tie.Need-add-packet-3
+add-packet-3 c = search needs
 
-returns : tie.Need-returns Inv-loop μ-loop
+slice-write-packet-4 : tie.Need-slice-write-packet-4
+slice-write-packet-4 c = simp length-set (omega arith)
+
+cast-packet-5 : tie.Need-cast-packet-5
+cast-packet-5 c = search needs
+
+add-packet-4 : tie.Need-add-packet-4
+add-packet-4 c = search needs
+
+slice-write-packet-5 : tie.Need-slice-write-packet-5
+slice-write-packet-5 c = simp length-set (omega arith)
+
+cast-packet-6 : tie.Need-cast-packet-6
+cast-packet-6 c = search needs
+
+add-packet-5 : tie.Need-add-packet-5
+add-packet-5 c = search needs
+
+slice-write-packet-6 : tie.Need-slice-write-packet-6
+slice-write-packet-6 c = simp length-set (omega arith)
+
+cast-packet-7 : tie.Need-cast-packet-7
+cast-packet-7 c = search needs
+
+add-packet-6 : tie.Need-add-packet-6
+add-packet-6 c = search needs
+
+slice-write-packet-7 : tie.Need-slice-write-packet-7
+slice-write-packet-7 c = simp length-set (omega arith)
+
+cast-packet-8 : tie.Need-cast-packet-8
+cast-packet-8 c = search needs
+
+add-packet-7 : tie.Need-add-packet-7
+add-packet-7 c = search needs
+
+slice-write-packet-8 : tie.Need-slice-write-packet-8
+slice-write-packet-8 c = simp length-set (omega arith)
+
+same-length : tie.Need-same-length
+same-length c = search needs depth 10
+
+returns : tie.Need-returns
 returns c =
-    let l = c .before .loop in
-    let a = c .before .before .args in
-    let all : l .j ≡ length (now (a .bytes)) = omega arith in
-    l .inv .2 ∙ ap (paste (now (a .packet)) (a .at) (now (a .bytes))) all
+    let at = c .args .at in
+    let two : at + 2 ≡ suc (suc at) = omega arith in
+    let three : at + 3 ≡ suc (suc (suc at)) = omega arith in
+    let four : at + 4 ≡ suc (suc (suc (suc at))) = omega arith in
+    let five : at + 5 ≡ suc (suc (suc (suc (suc at)))) = omega arith in
+    let six : at + 6 ≡ suc (suc (suc (suc (suc (suc at))))) = omega arith in
+    let seven : at + 7 ≡ suc (suc (suc (suc (suc (suc (suc at)))))) = omega arith in
+    rw (two, three, four, five, six, seven, add-one)
 
 pub lay-spec : {M : Type 1} → statement M
 lay-spec =
     tie.close
     (tie.spec
-    Inv-loop
-    μ-loop
-    loop-holds
-    shared-slice-read-packet
-    add-packet
+    cast-packet
     slice-write-packet
-    add-j
-    loop-less
-    loop-again
+    cast-packet-2
+    add-packet
+    slice-write-packet-2
+    cast-packet-3
+    add-packet-2
+    slice-write-packet-3
+    cast-packet-4
+    add-packet-3
+    slice-write-packet-4
+    cast-packet-5
+    add-packet-4
+    slice-write-packet-5
+    cast-packet-6
+    add-packet-5
+    slice-write-packet-6
+    cast-packet-7
+    add-packet-6
+    slice-write-packet-7
+    cast-packet-8
+    add-packet-7
+    slice-write-packet-8
     same-length
     returns)

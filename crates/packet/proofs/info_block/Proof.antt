@@ -27,14 +27,14 @@ sub-check c = search needs
 cast-check : tie.Need-cast-check
 cast-check c = search needs
 
-subpacket-requires : tie.Need-subpacket-requires
-subpacket-requires c κs = search needs
+subpacket-word-requires : tie.Need-subpacket-word-requires
+subpacket-word-requires c κs = search needs
 
 returns : tie.Need-returns
 returns c =
     let x = c .before .args in
     let order : x .header + x .a + x .b + x .c + x .d ≡ sum (x .header ∷ x .a ∷ x .b ∷ x .c ∷ x .d ∷ []) = omega arith in
-    c .subpacket .ensures ∙ ap (λ (t : ℕ). withParity ((256 - t % 256) % 256 ∷ x .a ∷ x .b ∷ x .c ∷ x .d ∷ 0 ∷ 0 ∷ [])) order
+    c .subpacket-word .ensures ∙ ap (λ (t : ℕ). withParity ((256 - t % 256) % 256 ∷ x .a ∷ x .b ∷ x .c ∷ x .d ∷ 0 ∷ 0 ∷ [])) order
 
 pub info-block-spec : {M : Type 1} → statement M
 info-block-spec =
@@ -46,5 +46,5 @@ info-block-spec =
     add-sum-4
     sub-check
     cast-check
-    subpacket-requires
+    subpacket-word-requires
     returns)

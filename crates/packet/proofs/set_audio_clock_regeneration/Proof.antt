@@ -24,29 +24,29 @@ returns-3 c =
     let a = c .before .before .before .before .args in
     rw (eq-eqb (length (now (a .packet))) 36 (c .before .before .if1 .left), lt-ltb (a .cts) 1048576 (c .before .if2 .left), le-ltb (a .n) 1048576 (c .if3 .taken)) (refl, refl)
 
-cast-subpacket : tie.Need-cast-subpacket
-cast-subpacket c = search needs
+cast-subpacket-word : tie.Need-cast-subpacket-word
+cast-subpacket-word c = search needs
 
-cast-subpacket-2 : tie.Need-cast-subpacket-2
-cast-subpacket-2 c = search needs
+cast-subpacket-word-2 : tie.Need-cast-subpacket-word-2
+cast-subpacket-word-2 c = search needs
 
-cast-subpacket-3 : tie.Need-cast-subpacket-3
-cast-subpacket-3 c = search needs
+cast-subpacket-word-3 : tie.Need-cast-subpacket-word-3
+cast-subpacket-word-3 c = search needs
 
-cast-subpacket-4 : tie.Need-cast-subpacket-4
-cast-subpacket-4 c = search needs
+cast-subpacket-word-4 : tie.Need-cast-subpacket-word-4
+cast-subpacket-word-4 c = search needs
 
-cast-subpacket-5 : tie.Need-cast-subpacket-5
-cast-subpacket-5 c = search needs
+cast-subpacket-word-5 : tie.Need-cast-subpacket-word-5
+cast-subpacket-word-5 c = search needs
 
-cast-subpacket-6 : tie.Need-cast-subpacket-6
-cast-subpacket-6 c = search needs
+cast-subpacket-word-6 : tie.Need-cast-subpacket-word-6
+cast-subpacket-word-6 c = search needs
 
-subpacket-requires : tie.Need-subpacket-requires
-subpacket-requires c κs = search needs
+subpacket-word-requires : tie.Need-subpacket-word-requires
+subpacket-word-requires c κs = search needs
 
-join-requires : tie.Need-join-requires
-join-requires c κs = search needs
+join-words-requires : tie.Need-join-words-requires
+join-words-requires c κs = search needs
 
 same-length : tie.Need-same-length
 same-length c = search needs
@@ -57,9 +57,9 @@ returns-4 c =
     let b = k .before .before in
     let e = b .before in
     let a = e .before .before .before .before .args in
-    let block = b .subpacket .ensures in
+    let block = b .subpacket-word .ensures in
     let long = eq-eqb (length (now (a .packet))) 36 (e .before .before .if1 .left) in
-    let joined = rw long at (k .join .ensures) in
+    let joined = rw long at (k .join-words .ensures) in
     rw (long, lt-ltb (a .cts) 1048576 (e .before .if2 .left), lt-ltb (a .n) 1048576 (e .if3 .left))
     (joined .0, joined .1 ∙ joined-packet (1 ∷ 0 ∷ 0 ∷ []) (λ s. clockBytes (a .cts) (a .n)) (header-with (1 ∷ 0 ∷ 0 ∷ []) 0x4a header-1-0-0) block block block block)
 
@@ -70,13 +70,13 @@ set-audio-clock-regeneration-spec =
     returns
     returns-2
     returns-3
-    cast-subpacket
-    cast-subpacket-2
-    cast-subpacket-3
-    cast-subpacket-4
-    cast-subpacket-5
-    cast-subpacket-6
-    subpacket-requires
-    join-requires
+    cast-subpacket-word
+    cast-subpacket-word-2
+    cast-subpacket-word-3
+    cast-subpacket-word-4
+    cast-subpacket-word-5
+    cast-subpacket-word-6
+    subpacket-word-requires
+    join-words-requires
     same-length
     returns-4)

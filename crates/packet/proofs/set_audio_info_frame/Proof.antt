@@ -6,6 +6,7 @@ use denote.Ref.{now}
 use borrow.Author.Needs.{needs}
 use borrow.Author.Tests.{eq-eqb, ne-eqb}
 use lib.ListN.{length}
+use Rattle.laws.specs.Bytes.{lowFirst}
 use Rattle.hdmi.specs.Info.{infoFrame}
 use Rattle.hdmi.proofs.Figures.{header-84-1-10}
 use Rattle.packet.proofs.Infos.{info-joined}
@@ -27,8 +28,8 @@ add-info-block c = search needs
 info-block-requires : tie.Need-info-block-requires
 info-block-requires c κs = search needs
 
-join-requires : tie.Need-join-requires
-join-requires c κs = search needs
+join-words-requires : tie.Need-join-words-requires
+join-words-requires c κs = search needs
 
 same-length : tie.Need-same-length
 same-length c = search needs
@@ -41,11 +42,11 @@ returns-2 c =
     let f = b .before in
     let e = f .before in
     let long = eq-eqb (length (now (e .before .before .args .packet))) 36 (e .if1 .left) in
-    let joined = rw long at (k .join .ensures) in
+    let joined = rw long at (k .join-words .ensures) in
     rw long (
       joined .0,
       joined .1
-          ∙ info-joined 0x84 1 10 0x4a 143 0x11 (1 + 4 * f .frequency-code .result) 0 0 (b .info-block .result) header-84-1-10 refl (b .info-block .ensures)
+          ∙ info-joined 0x84 1 10 0x4a 143 0x11 (1 + 4 * f .frequency-code .result) 0 0 (lowFirst 8 (b .info-block .result)) header-84-1-10 refl (b .info-block .ensures)
           ∙ ap (λ (x : ℕ). infoFrame (0x84 ∷ 1 ∷ 10 ∷ []) (0x11 ∷ (1 + 4 * x) ∷ 0 ∷ 0 ∷ [])) (f .frequency-code .ensures .0),
     )
 
@@ -58,6 +59,6 @@ set-audio-info-frame-spec =
     mul-info-block
     add-info-block
     info-block-requires
-    join-requires
+    join-words-requires
     same-length
     returns-2)

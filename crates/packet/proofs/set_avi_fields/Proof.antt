@@ -4,6 +4,7 @@ use denote.Ref.{now}
 use borrow.Author.Needs.{needs}
 use borrow.Author.Tests.{eq-eqb, ne-eqb}
 use lib.ListN.{length}
+use Rattle.laws.specs.Bytes.{lowFirst}
 use Rattle.hdmi.proofs.Figures.{header-82-2-13}
 use Rattle.packet.proofs.Infos.{info-joined}
 use Rattle.packet.proofs.set_avi_fields.Statement.{statement}
@@ -15,59 +16,56 @@ returns c = rw (ne-eqb (length (now (c .before .before .args .packet))) 36 (c .i
 number-requires : tie.Need-number-requires
 number-requires c κs = search needs
 
-present-requires : tie.Need-present-requires
-present-requires c κs = search needs
-
-mul-b1 : tie.Need-mul-b1
-mul-b1 c = search needs
-
-add-b1 : tie.Need-add-b1
-add-b1 c = search needs
+cast-avi-block : tie.Need-cast-avi-block
+cast-avi-block c = search needs
 
 number-requires-2 : tie.Need-number-requires-2
 number-requires-2 c κs = search needs
 
-mul-b1-2 : tie.Need-mul-b1-2
-mul-b1-2 c = search needs
-
-add-b1-2 : tie.Need-add-b1-2
-add-b1-2 c = search needs
+cast-avi-block-2 : tie.Need-cast-avi-block-2
+cast-avi-block-2 c = search needs
 
 number-requires-3 : tie.Need-number-requires-3
 number-requires-3 c κs = search needs
 
+cast-avi-block-3 : tie.Need-cast-avi-block-3
+cast-avi-block-3 c = search needs
+
 number-requires-4 : tie.Need-number-requires-4
 number-requires-4 c κs = search needs
 
-mul-b2 : tie.Need-mul-b2
-mul-b2 c = search needs
-
-add-b2 : tie.Need-add-b2
-add-b2 c = search needs
+cast-avi-block-4 : tie.Need-cast-avi-block-4
+cast-avi-block-4 c = search needs
 
 number-requires-5 : tie.Need-number-requires-5
 number-requires-5 c κs = search needs
 
-mul-b2-2 : tie.Need-mul-b2-2
-mul-b2-2 c = search needs
+cast-avi-block-5 : tie.Need-cast-avi-block-5
+cast-avi-block-5 c = search needs
 
-add-b2-2 : tie.Need-add-b2-2
-add-b2-2 c = search needs
+present-requires : tie.Need-present-requires
+present-requires c κs = search needs
+
+cast-avi-block-6 : tie.Need-cast-avi-block-6
+cast-avi-block-6 c = search needs
 
 number-requires-6 : tie.Need-number-requires-6
 number-requires-6 c κs = search needs
 
-mul-info-block : tie.Need-mul-info-block
-mul-info-block c = search needs
+cast-avi-block-7 : tie.Need-cast-avi-block-7
+cast-avi-block-7 c = search needs
 
 number-requires-7 : tie.Need-number-requires-7
 number-requires-7 c κs = search needs
 
-info-block-requires : tie.Need-info-block-requires
-info-block-requires c κs = search needs
+cast-avi-block-8 : tie.Need-cast-avi-block-8
+cast-avi-block-8 c = search needs
 
-join-requires : tie.Need-join-requires
-join-requires c κs = search needs
+avi-block-requires : tie.Need-avi-block-requires
+avi-block-requires c κs = search needs
+
+join-words-requires : tie.Need-join-words-requires
+join-words-requires c κs = search needs
 
 same-length : tie.Need-same-length
 same-length c = search needs
@@ -78,20 +76,20 @@ returns-2 c =
     let b = k .before .before in
     let v = b .before in
     let q = v .before in
-    let c2 = q .before in
-    let m = c2 .before in
-    let r = m .before in
-    let y = r .before in
-    let a = y .before in
-    let s = a .before in
+    let a = q .before in
+    let r = a .before in
+    let m = r .before in
+    let c2 = m .before in
+    let y = c2 .before in
+    let s = y .before in
     let e = s .before in
     let long = eq-eqb (length (now (e .before .before .args .packet))) 36 (e .if1 .left) in
-    let joined = rw long at (k .join .ensures) in
+    let joined = rw long at (k .join-words .ensures) in
     rw long (
       joined .0,
       joined .1
-          ∙ info-joined 0x82 2 13 0xe4 145 _ _ _ _ (b .info-block .result) header-82-2-13 refl (b .info-block .ensures)
-          ∙ rw (s .number .ensures .0, a .present .ensures .0, y .number2 .ensures .0, r .number3 .ensures .0, m .number4 .ensures .0, c2 .number5 .ensures .0, q .number6 .ensures .0, v .number7 .ensures .0),
+          ∙ info-joined 0x82 2 13 0xe4 145 _ _ _ _ (lowFirst 8 (b .avi-block .result)) header-82-2-13 refl (b .avi-block .ensures)
+          ∙ rw (s .number .ensures .0, y .number2 .ensures .0, c2 .number3 .ensures .0, m .number4 .ensures .0, r .number5 .ensures .0, a .present .ensures .0, q .number6 .ensures .0, v .number7 .ensures .0),
     )
 
 pub set-avi-fields-spec : {M : Type 1} → statement M
@@ -100,23 +98,22 @@ set-avi-fields-spec =
     (tie.spec
     returns
     number-requires
-    present-requires
-    mul-b1
-    add-b1
+    cast-avi-block
     number-requires-2
-    mul-b1-2
-    add-b1-2
+    cast-avi-block-2
     number-requires-3
+    cast-avi-block-3
     number-requires-4
-    mul-b2
-    add-b2
+    cast-avi-block-4
     number-requires-5
-    mul-b2-2
-    add-b2-2
+    cast-avi-block-5
+    present-requires
+    cast-avi-block-6
     number-requires-6
-    mul-info-block
+    cast-avi-block-7
     number-requires-7
-    info-block-requires
-    join-requires
+    cast-avi-block-8
+    avi-block-requires
+    join-words-requires
     same-length
     returns-2)
