@@ -6,6 +6,7 @@ ghost use mathlib.Core.Path.{_≡_};
 ghost use lib.Bits.{bitXor};
 ghost use lib.IntN.{pos};
 ghost use lib.ListN.{length, replicate};
+ghost use Prim.Native.Nat.{_/_};
 ghost use Rattle.dvi.specs.Control.{control, pairOf};
 ghost use Rattle.symbol.specs.Encode.{encodeOf};
 ghost use Rattle.symbol.specs.Pair.{joinOf, wordOf, endOf, balancedOf};
@@ -23,10 +24,11 @@ ghost use Rattle.hdmi.specs.Parity.{parity};
 ghost use Rattle.blocks.specs.Asks.{packetAsks};
 ghost use Rattle.packet.specs.Asks.{clockAsks, aviAsks};
 ghost use Rattle.laws.specs.Bytes.{bytesOf, numbersOf};
+ghost use Rattle.c_audio.specs.Samples.{countOf, packetOut, counted};
 ghost use Rattle.hdmi.specs.Island.{island};
 ghost use Rattle.terc4.specs.Terc4.{symbolAnswer, readAnswer};
-ghost use Rattle.c_island.specs.Asks.{encodeIslandAsks};
-ghost use Rattle.c_island.specs.Crossing.{terc4Symbol, terc4Read};
+ghost use Rattle.c_island.specs.Asks.{encodeIslandAsks, readIslandOf, readIslandOut};
+ghost use Rattle.c_island.specs.Crossing.{terc4Symbol, terc4Read, islandRead};
 ghost use Rattle.line.specs.Line.{pulseWords, onlyWords, initLine, encodeLine};
 ghost use Rattle.c_line.specs.Asks.{lineBytesAsks, islandBytesAsks};
 
@@ -142,6 +144,16 @@ pub extern "C" fn chaffrail_set_avi_info_frame(
     c_packet::set_avi_info_frame(packet, s, y, c, m, r, q, v)
 }
 
+// ---- audio
+
+#[no_mangle]
+pub extern "C" fn chaffrail_set_audio(packet: &mut [u8], samples: &[u8], count: i32) -> Answer
+    ensures answer { λ r. ⌜ r ≡ counted (countOf (now (packet .entry)) (now (samples .entry)) count) ⌝ }
+    ensures written { λ _. ⌜ now (packet .exit) ≡ packetOut (now (packet .entry)) (now (samples .entry)) count ⌝ }
+{
+    c_audio::set_audio(packet, samples, count)
+}
+
 // ---- TERC4 and islands
 
 #[no_mangle]
@@ -164,6 +176,14 @@ pub extern "C" fn chaffrail_encode_island(hv: u8, packet: &[u8], words: &mut [u8
     ensures written { λ _. ⌜ now (words .exit) ≡ kept (verdict (encodeIslandAsks hv (now (packet .entry)) (now (words .entry)))) (bytesOf 4 (island hv (now (packet .entry)))) (now (words .entry)) ⌝ }
 {
     c_island::encode_island(hv, packet, words)
+}
+
+#[no_mangle]
+pub extern "C" fn chaffrail_read_island(words: &[u8], packet: &mut [u8]) -> Answer
+    ensures answer { λ r. ⌜ r ≡ islandRead (readIslandOf (now (words .entry)) (now (packet .entry))) ⌝ }
+    ensures written { λ _. ⌜ now (packet .exit) ≡ readIslandOut (now (words .entry)) (now (packet .entry)) ⌝ }
+{
+    c_island::read_island(words, packet)
 }
 
 // ---- lines

@@ -4,6 +4,7 @@ use refusal::Verdict;
 use timing::DviTiming;
 ghost use mathlib.Core.Path.{_≡_};
 ghost use Rattle.crossing.specs.Crossing.{given, refused, told};
+ghost use Rattle.crossing.specs.Signed.{signed};
 ghost use Rattle.crossing.specs.Timing.{timingOf, isOn};
 
 // Sixteen bytes, so it comes back in two registers.
@@ -88,4 +89,24 @@ pub fn is_on(level: u8) -> bool
     ensures { λ r. ⌜ r ≡ isOn level ⌝ }
 {
     !(level == 0)
+}
+
+// The sample whose sixteen bits these are.
+pub fn signed_16(bits: u16) -> i16
+    ensures { λ r. ⌜ r ≡ signed 16 bits ⌝ }
+{
+    if bits < 0x8000 {
+        return bits as i16;
+    }
+    ((bits as i32) - 0x1_0000) as i16
+}
+
+// The number whose 32 bits these are: a counter crosses as a carry so.
+pub fn signed_32(bits: u32) -> i32
+    ensures { λ r. ⌜ r ≡ signed 32 bits ⌝ }
+{
+    if bits < 0x8000_0000 {
+        return bits as i32;
+    }
+    ((bits as i64) - 0x1_0000_0000) as i32
 }

@@ -10,6 +10,9 @@ use Rattle.refusal.specs.declared.Refusal.the-variants.{Length}
 use Rattle.refusal.specs.declared.Verdict.{Verdict}
 use Rattle.refusal.specs.declared.Verdict.the-variants.{Fine, Refused}
 use Rattle.refusal.specs.Verdict.{unless, kept}
+use Rattle.refusal.proofs.Verdicts.{holds-first}
+use Rattle.laws.proofs.Truth.{T-true}
+use Rattle.timing.proofs.Upward.{never}
 use Rattle.crossing.specs.declared.Answer.{Answer}
 use Rattle.crossing.specs.Crossing.{told}
 use Rattle.word_bytes.specs.Words.{fourEach, wordsFirst}
@@ -48,3 +51,11 @@ crossed-lent n old v f lent zeros before scratch out told-of r l e b s h =
       w .1 ∙ ap (λ (x : List ℕ). kept (wordsFirst n old v) (bytesOf 4 (f x)) old) b
           ∙ lent-first (fourEach (length old) n) Length v (λ (x : List ℕ). bytesOf 4 (f x)) lent zeros old,
     )
+
+-- the first question alone tells of the whole verdict: where it fails the rest isn't asked, where it holds the rest decides
+pub rest-unasked : (fits : Bool) (r k : Refusal) (v : Verdict) → unless fits r Fine ≡ Refused k → unless fits r v ≡ Refused k
+rest-unasked true r k v e = absurd (never refl e)
+rest-unasked false r k v e = e
+
+pub rest-decides : (fits : Bool) (r : Refusal) → unless fits r Fine ≡ Fine → fits ≡ true
+rest-decides fits r e = T-true (holds-first fits r Fine e)
