@@ -13,7 +13,7 @@ ghost use Rattle.symbol.specs.Pair.{joinOf, wordOf, endOf, balancedOf};
 ghost use Rattle.symbol.specs.Read.{Reads};
 ghost use Rattle.symbol.specs.declared.SymbolRead.{SymbolRead};
 ghost use Rattle.crossing.specs.Crossing.{given, told};
-ghost use Rattle.crossing.specs.Timing.{isOn, timingOf};
+ghost use Rattle.crossing.specs.Timing.{isOn, timingOf, crossing};
 ghost use Rattle.c_symbol.specs.Crossing.{encoded, read, joined};
 ghost use Rattle.refusal.specs.Verdict.{verdict, kept};
 ghost use Rattle.row.specs.Wire.{encodeBytesOf, encodeBytesOut, readBytesAsks, readBytesOut};
@@ -29,8 +29,14 @@ ghost use Rattle.hdmi.specs.Island.{island};
 ghost use Rattle.terc4.specs.Terc4.{symbolAnswer, readAnswer};
 ghost use Rattle.c_island.specs.Asks.{encodeIslandAsks, readIslandOf, readIslandOut};
 ghost use Rattle.c_island.specs.Crossing.{terc4Symbol, terc4Read, islandRead};
+ghost use Rattle.timing.specs.Command.{commandOf};
+ghost use Rattle.timing.specs.Sync.{syncWordOf};
+ghost use Rattle.timing.specs.Timing.{timingAsks, vga};
+ghost use Rattle.c_timing.specs.Crossing.{commanded, synced};
 ghost use Rattle.line.specs.Line.{pulseWords, onlyWords, initLine, encodeLine};
 ghost use Rattle.c_line.specs.Asks.{lineBytesAsks, islandBytesAsks};
+ghost use Rattle.counter.specs.Counter.{counterAt, advanceOf, vStateOf, scanlineOf};
+ghost use Rattle.c_counter.specs.Crossing.{advanced, stated, shown};
 
 // ---- symbols and pairs
 
@@ -186,6 +192,43 @@ pub extern "C" fn chaffrail_read_island(words: &[u8], packet: &mut [u8]) -> Answ
     c_island::read_island(words, packet)
 }
 
+// ---- a timing, its words and the command words
+
+#[no_mangle]
+pub extern "C" fn chaffrail_vga_timing() -> Timing
+    ensures { λ r. ⌜ r ≡ crossing vga ⌝ }
+{
+    c_timing::vga_timing()
+}
+
+#[no_mangle]
+pub extern "C" fn chaffrail_check_timing(timing: Timing) -> Answer
+    ensures { λ r. ⌜ r ≡ told (verdict (timingAsks (timingOf timing))) ⌝ }
+{
+    c_timing::check_timing(timing)
+}
+
+#[no_mangle]
+pub extern "C" fn chaffrail_tmds3_for_sync(timing: Timing, h_sync: u8, v_sync: u8) -> Answer
+    ensures { λ r. ⌜ r ≡ synced (syncWordOf (timingOf timing) (isOn «h_sync») (isOn «v_sync»)) ⌝ }
+{
+    c_timing::tmds3_for_sync(timing, h_sync, v_sync)
+}
+
+#[no_mangle]
+pub extern "C" fn chaffrail_hstx_cmd_raw(words: u32) -> Answer
+    ensures { λ r. ⌜ r ≡ commanded (commandOf 0 words) ⌝ }
+{
+    c_timing::hstx_cmd_raw(words)
+}
+
+#[no_mangle]
+pub extern "C" fn chaffrail_hstx_cmd_raw_repeat(times: u32) -> Answer
+    ensures { λ r. ⌜ r ≡ commanded (commandOf 1 times) ⌝ }
+{
+    c_timing::hstx_cmd_raw_repeat(times)
+}
+
 // ---- lines
 
 #[no_mangle]
@@ -239,4 +282,27 @@ pub extern "C" fn chaffrail_encode_data_island_empty(
     ensures words { λ _. ⌜ now (line .exit) ≡ kept (verdict (islandBytesAsks (timingOf timing) (now (line .entry)) 36 state)) (bytesOf 4 (encodeLine (timingOf timing) state (replicate 36 0) (numbersOf 4 56 (now (line .entry))))) (now (line .entry)) ⌝ }
 {
     c_line::encode_data_island_empty(timing, line, state)
+}
+
+// ---- the line counter
+
+#[no_mangle]
+pub extern "C" fn chaffrail_counter_advance(counter: u32, timing: Timing) -> Answer
+    ensures { λ r. ⌜ r ≡ advanced (advanceOf (timingOf timing) (counterAt counter)) ⌝ }
+{
+    c_counter::counter_advance(counter, timing)
+}
+
+#[no_mangle]
+pub extern "C" fn chaffrail_counter_state(counter: u32, timing: Timing) -> Answer
+    ensures { λ r. ⌜ r ≡ stated (counterAt counter) (vStateOf (timingOf timing) (counterAt counter)) ⌝ }
+{
+    c_counter::counter_state(counter, timing)
+}
+
+#[no_mangle]
+pub extern "C" fn chaffrail_counter_row(counter: u32, timing: Timing, offset: u32) -> Answer
+    ensures { λ r. ⌜ r ≡ shown (counterAt counter) (scanlineOf (timingOf timing) (counterAt counter) offset) ⌝ }
+{
+    c_counter::counter_row(counter, timing, offset)
 }

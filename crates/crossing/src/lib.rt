@@ -5,7 +5,7 @@ use timing::DviTiming;
 ghost use mathlib.Core.Path.{_≡_};
 ghost use Rattle.crossing.specs.Crossing.{given, refused, told};
 ghost use Rattle.crossing.specs.Signed.{signed};
-ghost use Rattle.crossing.specs.Timing.{timingOf, isOn};
+ghost use Rattle.crossing.specs.Timing.{timingOf, crossing, isOn};
 
 // Sixteen bytes, so it comes back in two registers.
 #[repr(C)]
@@ -71,6 +71,24 @@ pub fn timing_of(t: Timing) -> DviTiming
     ensures { λ r. ⌜ r ≡ timingOf t ⌝ }
 {
     DviTiming {
+        h_sync_polarity: t.h_sync_polarity,
+        h_front_porch: t.h_front_porch,
+        h_sync_width: t.h_sync_width,
+        h_back_porch: t.h_back_porch,
+        h_active_pixels: t.h_active_pixels,
+        v_sync_polarity: t.v_sync_polarity,
+        v_front_porch: t.v_front_porch,
+        v_sync_width: t.v_sync_width,
+        v_back_porch: t.v_back_porch,
+        v_active_lines: t.v_active_lines,
+        bit_clk: t.bit_clk,
+    }
+}
+
+pub fn timing_crossing(t: DviTiming) -> Timing
+    ensures { λ r. ⌜ r ≡ crossing t ⌝ }
+{
+    Timing {
         h_sync_polarity: t.h_sync_polarity,
         h_front_porch: t.h_front_porch,
         h_sync_width: t.h_sync_width,
