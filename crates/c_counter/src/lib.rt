@@ -26,8 +26,8 @@ fn answer_advanced(a: Advanced) -> Answer
 pub fn counter_advance(counter: u32, timing: Timing) -> Answer
     ensures { λ r. ⌜ r ≡ advanced (advanceOf (timingOf timing) (counterAt counter)) ⌝ }
 {
-    let s = DviTimingState::new(counter);
-    answer_advanced(s.advance(timing_of(timing)))
+    let sent = DviTimingState::new(counter);
+    answer_advanced(sent.advance(timing_of(timing)))
 }
 
 fn answer_stated(s: DviTimingState, a: VState) -> Answer
@@ -42,8 +42,8 @@ fn answer_stated(s: DviTimingState, a: VState) -> Answer
 pub fn counter_state(counter: u32, timing: Timing) -> Answer
     ensures { λ r. ⌜ r ≡ stated (counterAt counter) (vStateOf (timingOf timing) (counterAt counter)) ⌝ }
 {
-    let s = DviTimingState::new(counter);
-    answer_stated(s, s.v_state(timing_of(timing)))
+    let line = DviTimingState::new(counter);
+    answer_stated(line, line.v_state(timing_of(timing)))
 }
 
 fn answer_shown(s: DviTimingState, a: Scanline) -> Answer
@@ -59,6 +59,6 @@ fn answer_shown(s: DviTimingState, a: Scanline) -> Answer
 pub fn counter_row(counter: u32, timing: Timing, offset: u32) -> Answer
     ensures { λ r. ⌜ r ≡ shown (counterAt counter) (scanlineOf (timingOf timing) (counterAt counter) offset) ⌝ }
 {
-    let s = DviTimingState::new(counter);
-    answer_shown(s, s.v_scanline_index(timing_of(timing), offset))
+    let from = DviTimingState::new(counter);
+    answer_shown(from, from.v_scanline_index(timing_of(timing), offset))
 }

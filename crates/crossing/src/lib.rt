@@ -85,21 +85,21 @@ pub fn timing_of(t: Timing) -> DviTiming
     }
 }
 
-pub fn timing_crossing(t: DviTiming) -> Timing
-    ensures { λ r. ⌜ r ≡ crossing t ⌝ }
+pub fn timing_crossing(mode: DviTiming) -> Timing
+    ensures { λ r. ⌜ r ≡ crossing mode ⌝ }
 {
     Timing {
-        h_sync_polarity: t.h_sync_polarity,
-        h_front_porch: t.h_front_porch,
-        h_sync_width: t.h_sync_width,
-        h_back_porch: t.h_back_porch,
-        h_active_pixels: t.h_active_pixels,
-        v_sync_polarity: t.v_sync_polarity,
-        v_front_porch: t.v_front_porch,
-        v_sync_width: t.v_sync_width,
-        v_back_porch: t.v_back_porch,
-        v_active_lines: t.v_active_lines,
-        bit_clk: t.bit_clk,
+        h_sync_polarity: mode.h_sync_polarity,
+        h_front_porch: mode.h_front_porch,
+        h_sync_width: mode.h_sync_width,
+        h_back_porch: mode.h_back_porch,
+        h_active_pixels: mode.h_active_pixels,
+        v_sync_polarity: mode.v_sync_polarity,
+        v_front_porch: mode.v_front_porch,
+        v_sync_width: mode.v_sync_width,
+        v_back_porch: mode.v_back_porch,
+        v_active_lines: mode.v_active_lines,
+        bit_clk: mode.bit_clk,
     }
 }
 
