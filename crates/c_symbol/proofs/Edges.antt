@@ -1,11 +1,16 @@
--- Each bound at its edge, as the answer says it.
-use mathlib.Core.Path.{_≡_, refl}
+-- Each bound at its edge, as the answer says it; and that a symbol's answer is the only one.
+use mathlib.Core.Path.{_≡_, refl, sym, ap, _∙_}
+use Prim.Native.Nat.{ℕ}
 use lib.IntN.{pos, negsuc}
 use Rattle.refusal.specs.declared.Refusal.the-variants.{Discrepancy, Unlisted}
 use Rattle.symbol.specs.Encode.{encodeOf}
 use Rattle.symbol.specs.Pair.{joinOf}
+use Rattle.symbol.specs.declared.SymbolRead.{SymbolRead}
+use Rattle.symbol.specs.Read.{Reads}
+use Rattle.symbol.proofs.Reading.{one-answer}
+use Rattle.crossing.specs.declared.Answer.{Answer}
 use Rattle.crossing.specs.Crossing.{given, refused}
-use Rattle.c_symbol.specs.Crossing.{encoded, joined}
+use Rattle.c_symbol.specs.Crossing.{encoded, read, joined}
 
 -- a discrepancy of 5 or -5 is refused, and comes back as it went in
 pub five : encoded (encodeOf (pos 5) 0) ≡ refused Discrepancy (pos 5)
@@ -27,3 +32,7 @@ ten-bits = refl
 
 pub eleven-bits : (joined (joinOf 1024 0) ≡ refused Unlisted (pos 0)) × (joined (joinOf 0 1024) ≡ refused Unlisted (pos 0))
 eleven-bits = (refl, refl)
+
+-- what is said of `read_symbol` leaves no choice
+pub read-once : (s : ℕ) (r q : Answer) → ((a : SymbolRead) × (Reads s a × (r ≡ read a))) → ((b : SymbolRead) × (Reads s b × (q ≡ read b))) → r ≡ q
+read-once s r q (a, p) (b, h) = p .1 ∙ ap read (one-answer s a b (p .0) (h .0)) ∙ sym (h .1)

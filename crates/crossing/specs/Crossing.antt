@@ -11,7 +11,7 @@ use Rattle.crossing.specs.declared.Answer.{Answer}
 abbrev pub given : ℕ → ℤ → Answer
 given value carry = record { refusal = 0; place = 0; value = value; carry = carry }
 
--- refused: the table's number and place, and what was carried in. (A place is an index of a row of at most 4,096, so its 32 bits are all of it.)
+-- refused: the table's number and place, and what was carried in. (A place is an index of a row or of an island, so its 32 bits are all of it.)
 abbrev pub refused : Refusal → ℤ → Answer
 refused r carry = record { refusal = numberOf r; place = placeOf r % 2 ^ 32; value = 0; carry = carry }
 

@@ -31,8 +31,8 @@ returns : tie.Need-returns
 returns c =
     let told = c .before .before .words-told in
     let made = c .before .before .before .before .before .before .make-sync-pulse in
-    let e = rw (c .before .before .before .before .before .before .before .before .before .timing-of .ensures, c .before .before .before .before .before .before .before .before .is-on .ensures) at (made .ensures) in
     let long : length (made .last .1 .1 .0) ≡ 15 = search needs in
+    let e = rw (c .before .before .before .before .before .before .before .before .before .timing-of .ensures, c .before .before .before .before .before .before .before .before .is-on .ensures) at (made .ensures) in
     crossed 15 (c .before .before .before .before .before .before .before .before .before .before .before .args .line .now) _ _ _ _ _ _ _ long (e .0) (e .1) (told .ensures)
 
 pub make-sync-pulse-spec : {M : Type 1} → statement M

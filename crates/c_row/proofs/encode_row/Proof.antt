@@ -1,6 +1,7 @@
 -- The symbols of a row of bytes, carried over.
 use mathlib.Core.Path.{sym, ap, _∙_}
 use mir.Facts.{toZ-ofZ}
+use Rattle.crossing.specs.Crossing.{given, refused}
 use Rattle.c_row.specs.Crossing.{rowEnded}
 use borrow.Author.Needs.{needs, sfits-of}
 use Rattle.c_row.proofs.encode_row.Statement.{statement}
@@ -27,7 +28,7 @@ same-length c = search needs
 returns : tie.Need-returns
 returns c =
     let e = rw (toZ-ofZ (c .before .before .before .before .before .before .before .before .before .before .fits .discrepancy)) at (c .before .before .before .before .before .before .encode-row-bytes .ensures) in
-    (rw (toZ-ofZ (sfits-of (c .before .known-told .given .0 .1))) at (c .answer-given .ensures) ∙ ap rowEnded (sym (c .before .before .a .given .1) ∙ e .0), e .1)
+    (c .answer-given .ensures ∙ ap (given 0) (toZ-ofZ (sfits-of (c .before .known-told .given .0 .1))) ∙ ap rowEnded (sym (c .before .before .a .given .1) ∙ e .0), e .1)
 
 same-length-2 : tie.Need-same-length-2
 same-length-2 c = search needs
@@ -35,7 +36,7 @@ same-length-2 c = search needs
 returns-2 : tie.Need-returns-2
 returns-2 c =
     let e = rw (toZ-ofZ (c .before .before .before .before .before .before .before .before .before .before .fits .discrepancy)) at (c .before .before .before .before .before .before .encode-row-bytes .ensures) in
-    (rw (toZ-ofZ (sfits-of (c .before .known-told2 .given .1 .0 .1))) at (c .answer-refused .ensures) ∙ ap rowEnded (sym (c .before .before .a2 .given .1) ∙ e .0), e .1)
+    (c .answer-refused .ensures ∙ ap (refused (c .before .before .a2 .given .0 .0)) (toZ-ofZ (sfits-of (c .before .known-told2 .given .1 .0 .1))) ∙ ap rowEnded (sym (c .before .before .a2 .given .1) ∙ e .0), e .1)
 
 pub encode-row-spec : {M : Type 1} → statement M
 encode-row-spec =
