@@ -184,10 +184,14 @@ chaffrail_answer chaffrail_encode_data_island(chaffrail_timing timing, uint8_t *
 chaffrail_answer chaffrail_encode_data_island_empty(chaffrail_timing timing, uint8_t *line, size_t line_len, uint8_t state);
 
 /* The line counter says which line of a frame is sent, from 0 to the total of lines less one. The carry has its 32 bits, so (uint32_t)a.carry is the
- * counter, whichever of the three functions answers. Refusals of all three: 4 for a polarity; 7; 8. */
+ * counter, where it goes by value. Refusals of all four: 4 for a polarity; 7; 8. */
 
 /* The counter one line on, and from the last line back to 0. Carry: the next counter. */
 chaffrail_answer chaffrail_counter_advance(uint32_t counter, chaffrail_timing timing);
+
+/* The same where the counter lies, for the loop that sends lines: four bytes, the low byte first, left as they are where it is refused. Refused with
+ * 1 unless counter_len is 4. */
+chaffrail_answer chaffrail_counter_advance_in_place(uint8_t *counter, size_t counter_len, chaffrail_timing timing);
 
 /* What the line is. Value: 0 front porch, 1 sync, 2 back porch, 3 active; carry: the counter. */
 chaffrail_answer chaffrail_counter_state(uint32_t counter, chaffrail_timing timing);

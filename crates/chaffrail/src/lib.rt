@@ -3,6 +3,7 @@
 use crossing::Answer;
 use crossing::Timing;
 ghost use mathlib.Core.Path.{_≡_};
+ghost use mathlib.Core.List.{[], _∷_};
 ghost use lib.Bits.{bitXor};
 ghost use lib.IntN.{pos};
 ghost use lib.ListN.{length, replicate};
@@ -35,8 +36,9 @@ ghost use Rattle.timing.specs.Timing.{timingAsks, vga};
 ghost use Rattle.c_timing.specs.Crossing.{commanded, synced};
 ghost use Rattle.line.specs.Line.{pulseWords, onlyWords, initLine, encodeLine};
 ghost use Rattle.c_line.specs.Asks.{lineBytesAsks, islandBytesAsks};
-ghost use Rattle.counter.specs.Counter.{counterAt, advanceOf, vStateOf, scanlineOf};
+ghost use Rattle.counter.specs.Counter.{counterAt, lineAfter, advanceOf, vStateOf, scanlineOf};
 ghost use Rattle.c_counter.specs.Crossing.{advanced, stated, shown};
+ghost use Rattle.c_scan_out.specs.Lent.{counterOf, counterBytesAsks};
 
 // ---- symbols and pairs
 
@@ -291,6 +293,14 @@ pub extern "C" fn chaffrail_counter_advance(counter: u32, timing: Timing) -> Ans
     ensures { λ r. ⌜ r ≡ advanced (advanceOf (timingOf timing) (counterAt counter)) ⌝ }
 {
     c_counter::counter_advance(counter, timing)
+}
+
+#[no_mangle]
+pub extern "C" fn chaffrail_counter_advance_in_place(counter: &mut [u8], timing: Timing) -> Answer
+    ensures answer { λ r. ⌜ r ≡ told (verdict (counterBytesAsks (timingOf timing) (now (counter .entry)))) ⌝ }
+    ensures counter { λ _. ⌜ now (counter .exit) ≡ kept (verdict (counterBytesAsks (timingOf timing) (now (counter .entry)))) (bytesOf 4 (lineAfter (timingOf timing) (counterOf (now (counter .entry))) ∷ [])) (now (counter .entry)) ⌝ }
+{
+    c_scan_out::counter_advance_in_place(counter, timing)
 }
 
 #[no_mangle]

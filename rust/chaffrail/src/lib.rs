@@ -380,6 +380,25 @@ pub fn counter_advance(counter: u32, timing: Timing) -> Result<u32, Refusal> {
     told(unsafe { raw::chaffrail_counter_advance(counter, timing) }).map(|a| a.carry as u32)
 }
 
+/// The line counter one line on where it lies, for the loop that sends lines. Refused, it stays as it is.
+///
+/// ```
+/// let mut counter = 523;
+/// chaffrail::counter_advance_in_place(&mut counter, chaffrail::VGA_TIMING)?;
+/// chaffrail::counter_advance_in_place(&mut counter, chaffrail::VGA_TIMING)?;
+/// assert_eq!(counter, 0);
+/// counter = 525;
+/// assert!(chaffrail::counter_advance_in_place(&mut counter, chaffrail::VGA_TIMING).is_err());
+/// assert_eq!(counter, 525);
+/// # Ok::<(), chaffrail::Refusal>(())
+/// ```
+pub fn counter_advance_in_place(counter: &mut u32, timing: Timing) -> Result<(), Refusal> {
+    let mut bytes = counter.to_le_bytes();
+    told(unsafe { raw::chaffrail_counter_advance_in_place(bytes.as_mut_ptr(), bytes.len(), timing) })?;
+    *counter = u32::from_le_bytes(bytes);
+    Ok(())
+}
+
 /// What the counter's line is: 0 front porch, 1 sync, 2 back porch, 3 active.
 ///
 /// ```

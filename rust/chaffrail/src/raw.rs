@@ -58,6 +58,7 @@ extern "C" {
     pub fn chaffrail_encode_data_island(timing: Timing, line: *mut u8, line_len: usize, state: u8, packet: *const u8, packet_len: usize) -> Answer;
     pub fn chaffrail_encode_data_island_empty(timing: Timing, line: *mut u8, line_len: usize, state: u8) -> Answer;
     pub fn chaffrail_counter_advance(counter: u32, timing: Timing) -> Answer;
+    pub fn chaffrail_counter_advance_in_place(counter: *mut u8, counter_len: usize, timing: Timing) -> Answer;
     pub fn chaffrail_counter_state(counter: u32, timing: Timing) -> Answer;
     pub fn chaffrail_counter_row(counter: u32, timing: Timing, offset: u32) -> Answer;
 }
