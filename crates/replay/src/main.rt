@@ -49,13 +49,9 @@ enum Outcome {
     Differs,
     // What follows the kind isn't bytes.
     Malformed,
-    Unknown,
 }
 
 fn judged(kind: usize, spelled: &[u8]) -> Outcome {
-    if KINDS <= kind {
-        return Outcome::Unknown;
-    }
     let mut room = io::buffer();
     let s = text::read_hex(spelled, &mut room);
     if !s.whole {
@@ -69,13 +65,14 @@ fn judged(kind: usize, spelled: &[u8]) -> Outcome {
     }
 }
 
-fn counted(counts: &[u64], kind: usize) -> u64 {
-    if kind < counts.len() { counts[kind] } else { 0 }
+// Of each kind two counts stand side by side: the cases that agree, and those that differ.
+fn counted(counts: &[u64], at: usize) -> u64 {
+    if at < counts.len() { counts[at] } else { 0 }
 }
 
-fn count(counts: &mut [u64], kind: usize) {
-    if kind < counts.len() {
-        counts[kind] = std::num::wrapping_add_u64(counts[kind], 1);
+fn count(counts: &mut [u64], at: usize) {
+    if at < counts.len() {
+        counts[at] = std::num::wrapping_add_u64(counts[at], 1);
     }
 }
 
@@ -95,30 +92,30 @@ fn say_line(number: u64, kind: &[u8], what: &[u8]) {
     say(what);
 }
 
-// Whether the case agrees. One that doesn't is counted, and said where it is the first of its kind or can't be read.
-fn case(kinds: &[u8], line: &[u8], number: u64, agreed: &mut [u64], different: &mut [u64]) -> bool {
+// Whether the case agrees. One that doesn't is said where it is the first of its kind or can't be read.
+fn case(kinds: &[u8], line: &[u8], number: u64, counts: &mut [u64]) -> bool {
     let end = text::find(line, 0, b' ');
     let kind = text::place(kinds, &line[0..end]);
+    if KINDS <= kind {
+        say_line(number, &line[0..end], b" is no kind of case\n");
+        return false;
+    }
     let outcome = judged(kind, &line[end..]);
     match outcome {
         Outcome::Agrees => {
-            count(agreed, kind);
+            count(counts, 2 * kind);
             true
         }
         Outcome::Differs => {
-            if counted(different, kind) == 0 {
+            if counted(counts, 2 * kind + 1) == 0 {
                 say_line(number, &line[0..end], b" differs, the first of its kind\n");
             }
-            count(different, kind);
+            count(counts, 2 * kind + 1);
             false
         }
         Outcome::Malformed => {
             say_line(number, &line[0..end], b" is malformed\n");
-            count(different, kind);
-            false
-        }
-        Outcome::Unknown => {
-            say_line(number, &line[0..end], b" is no kind of case\n");
+            count(counts, 2 * kind + 1);
             false
         }
     }
@@ -137,18 +134,11 @@ fn is_comment(line: &[u8]) -> bool {
     }
 }
 
-fn line_done(
-    kinds: &[u8],
-    line: &[u8],
-    number: u64,
-    totals: Totals,
-    agreed: &mut [u64],
-    different: &mut [u64],
-) -> Totals {
+fn line_done(kinds: &[u8], line: &[u8], number: u64, totals: Totals, counts: &mut [u64]) -> Totals {
     if is_comment(line) {
         return totals;
     }
-    let more = if case(kinds, line, number, agreed, different) {
+    let more = if case(kinds, line, number, counts) {
         0
     } else {
         1
@@ -159,7 +149,7 @@ fn line_done(
     }
 }
 
-fn replay(kinds: &[u8], list: &[u8], agreed: &mut [u64], different: &mut [u64]) -> Totals {
+fn replay(kinds: &[u8], list: &[u8], counts: &mut [u64]) -> Totals {
     let mut totals = Totals {
         cases: 0,
         different: 0,
@@ -169,7 +159,7 @@ fn replay(kinds: &[u8], list: &[u8], agreed: &mut [u64], different: &mut [u64]) 
     while at < list.len() {
         let end = text::find(list, at, b'\n');
         number = std::num::wrapping_add_u64(number, 1);
-        totals = line_done(kinds, &list[at..end], number, totals, agreed, different);
+        totals = line_done(kinds, &list[at..end], number, totals, counts);
         at = text::after(list, end);
     }
     totals
@@ -188,12 +178,16 @@ fn say_kind(name: &[u8], agreed: u64, different: u64) {
     say(b"\n");
 }
 
-fn say_kinds(kinds: &[u8], agreed: &[u64], different: &[u64]) {
+fn say_kinds(kinds: &[u8], counts: &[u64]) {
     let mut k = 0;
     let mut at = 0;
-    while at < kinds.len() {
+    while k < KINDS {
         let end = text::find(kinds, at, b' ');
-        say_kind(&kinds[at..end], counted(agreed, k), counted(different, k));
+        say_kind(
+            &kinds[at..end],
+            counted(counts, 2 * k),
+            counted(counts, 2 * k + 1),
+        );
         at = text::after(kinds, end);
         k += 1;
     }
@@ -208,10 +202,9 @@ fn say_totals(totals: Totals) {
 }
 
 fn replay_all(kinds: &[u8], list: &[u8]) {
-    let mut agreed = [0u64; KINDS];
-    let mut different = [0u64; KINDS];
-    let totals = replay(kinds, list, &mut agreed, &mut different);
-    say_kinds(kinds, &agreed, &different);
+    let mut counts = [0u64; 48];
+    let totals = replay(kinds, list, &mut counts);
+    say_kinds(kinds, &counts);
     say_totals(totals);
 }
 

@@ -7,10 +7,10 @@ use Rattle.replay.proofs.replay.Statement.{statement}
 use Rattle.replay.proofs.replay.Tie as tie
 
 abbrev Inv-loop : tie.InvT-loop
-Inv-loop kinds list agreed₀ different₀ totals₀ number₀ at₀ agreed different totals number at = (at ≤ length list) × (length agreed ≡ length agreed₀) × (length different ≡ length different₀)
+Inv-loop kinds list counts₀ totals₀ number₀ at₀ counts totals number at = (at ≤ length list) × (length counts ≡ length counts₀)
 
 abbrev μ-loop : tie.MeasureT-loop
-μ-loop kinds list agreed₀ different₀ totals₀ number₀ at₀ agreed different totals number at = length list - at
+μ-loop kinds list counts₀ totals₀ number₀ at₀ counts totals number at = length list - at
 
 loop-holds : tie.Need-loop-holds Inv-loop μ-loop
 loop-holds c = search needs
@@ -45,9 +45,6 @@ loop-again c = search needs
 same-length : tie.Need-same-length Inv-loop μ-loop
 same-length c = search needs
 
-same-length-2 : tie.Need-same-length-2 Inv-loop μ-loop
-same-length-2 c = search needs
-
 returns : tie.Need-returns Inv-loop μ-loop
 returns c = search needs
 
@@ -68,5 +65,4 @@ replay-spec =
     loop-less
     loop-again
     same-length
-    same-length-2
     returns)

@@ -6,10 +6,10 @@ use Rattle.replay.proofs.say_kinds.Statement.{statement}
 use Rattle.replay.proofs.say_kinds.Tie as tie
 
 abbrev Inv-loop : tie.InvT-loop
-Inv-loop kinds agreed different k₀ at₀ k at = (k ≤ at) × (at ≤ length kinds)
+Inv-loop kinds counts k₀ at₀ k at = (k ≤ 24) × (at ≤ length kinds)
 
 abbrev μ-loop : tie.MeasureT-loop
-μ-loop kinds agreed different k₀ at₀ k at = length kinds - at
+μ-loop kinds counts k₀ at₀ k at = 24 - k
 
 loop-holds : tie.Need-loop-holds Inv-loop μ-loop
 loop-holds c = search needs
@@ -26,8 +26,17 @@ part-say-kind-start c = search needs
 part-say-kind-end : tie.Need-part-say-kind-end Inv-loop μ-loop
 part-say-kind-end c = search needs
 
+mul-counted : tie.Need-mul-counted Inv-loop μ-loop
+mul-counted c = search needs
+
 counted-requires : tie.Need-counted-requires Inv-loop μ-loop
 counted-requires c κs = search needs
+
+mul-counted-2 : tie.Need-mul-counted-2 Inv-loop μ-loop
+mul-counted-2 c = search needs
+
+add-counted : tie.Need-add-counted Inv-loop μ-loop
+add-counted c = search needs
 
 counted-requires-2 : tie.Need-counted-requires-2 Inv-loop μ-loop
 counted-requires-2 c κs = search needs
@@ -61,7 +70,10 @@ say-kinds-spec =
     sub-say-kind
     part-say-kind-start
     part-say-kind-end
+    mul-counted
     counted-requires
+    mul-counted-2
+    add-counted
     counted-requires-2
     say-kind-requires
     after-requires
