@@ -11,7 +11,7 @@
  *
  *     int main(void)
  *     {
- *         uint8_t row[2] = {0x00, 0x00}, symbols[4], back[2], packet[36], island[144];
+ *         uint8_t row[2] = {0x00, 0x00}, symbols[4], back[2], packet[36], island[144], found[36];
  *         chaffrail_answer a = chaffrail_encode_row(0, row, sizeof row, symbols, sizeof symbols);
  *         printf("refusal %u, discrepancy %d, symbols %02x%02x %02x%02x\n", (unsigned)a.refusal, (int)a.carry, symbols[1], symbols[0], symbols[3], symbols[2]);
  *         a = chaffrail_read_row(symbols, sizeof symbols, back, sizeof back);
@@ -20,6 +20,10 @@
  *         printf("refusal %u, header %02x %02x %02x %02x\n", (unsigned)a.refusal, packet[0], packet[1], packet[2], packet[3]);
  *         a = chaffrail_encode_island(2, packet, sizeof packet, island, sizeof island);
  *         printf("refusal %u, guard word %02x%02x%02x%02x\n", (unsigned)a.refusal, island[3], island[2], island[1], island[0]);
+ *         a = chaffrail_read_island(island, sizeof island, found, sizeof found);
+ *         printf("refusal %u, sync pair %u, header %02x\n", (unsigned)a.refusal, (unsigned)a.value, found[0]);
+ *         a = chaffrail_counter_advance(524, chaffrail_vga_timing());
+ *         printf("refusal %u, next line %u\n", (unsigned)a.refusal, (unsigned)a.carry);
  *         a = chaffrail_encode_symbol(5, 0x10);
  *         printf("refusal %u, discrepancy %d\n", (unsigned)a.refusal, (int)a.carry);
  *         return 0;
@@ -71,6 +75,9 @@ chaffrail_answer chaffrail_encode_symbol(int32_t discrepancy, uint8_t byte);
 /* The byte of a data symbol. Value: the byte. Refusal: 11. */
 chaffrail_answer chaffrail_read_symbol(uint16_t symbol);
 
+/* The control symbol of the levels C0 and C1; a level is 0 for low, else high. Value: the symbol. Never refused. */
+chaffrail_answer chaffrail_control_symbol(uint8_t c0, uint8_t c1);
+
 /* Two symbols of ten bits in a word, the first in bits 0..9, the second in 10..19. Value: the word. Refusal: 4. */
 chaffrail_answer chaffrail_join_symbols(uint16_t first, uint16_t second);
 
@@ -102,6 +109,10 @@ chaffrail_answer chaffrail_read_terc4(uint16_t symbol);
 
 /* The packets: all 36 bytes are written, header 4, then four subpackets of 8, parity bytes included. Refusal 1 unless packet_len is 36. */
 
+/* Audio samples: up to four frames, left then right, each sample 16 bits in two's complement as two bytes, so 0, 4, 8, 12 or 16 bytes. The count
+ * says how many frames come before the next block of 192. Carry: the count after these frames. Refusals: 1, also for other lengths of samples; 5. */
+chaffrail_answer chaffrail_set_audio(uint8_t *packet, size_t packet_len, const uint8_t *samples, size_t samples_len, int32_t count);
+
 /* Audio clock regeneration. Refusals: 1; 6. */
 chaffrail_answer chaffrail_set_audio_clock_regeneration(uint8_t *packet, size_t packet_len, uint32_t cts, uint32_t n);
 
@@ -115,6 +126,11 @@ chaffrail_answer chaffrail_set_avi_info_frame(uint8_t *packet, size_t packet_len
 /* The 36 words of an island with one packet of 36 bytes, four bytes for each word; hv is the horizontal level plus twice the vertical one. The
  * packet's parity bytes are sent as they are. Refusals: 1 unless packet_len is 36 and words_len 144; 3. */
 chaffrail_answer chaffrail_encode_island(uint8_t hv, const uint8_t *packet, size_t packet_len, uint8_t *words, size_t words_len);
+
+/* The packet of an island, whose 36 words are four bytes each. Value: the sync pair of the island, 0..3. Nothing is written before every word was
+ * looked at. Refusals: 1 unless words_len is 144 and packet_len 36; 12, 13, 14 and 15 with the index of the first word that is wrong; 16; 17 with the
+ * first subpacket whose parity is wrong. */
+chaffrail_answer chaffrail_read_island(const uint8_t *words, size_t words_len, uint8_t *packet, size_t packet_len);
 
 /* A display mode. Polarities are 0 (negative) or 1 (positive), the bit clock is in kilohertz. Ranges: front porch 9..4095, sync 37..4095, back
  * porch 11..4095, active pixels 9..4095, each vertical number 1..4095. */
@@ -131,6 +147,22 @@ typedef struct chaffrail_timing {
     uint32_t v_active_lines;
     uint32_t bit_clk;
 } chaffrail_timing;
+
+/* 640 by 480 at 60 Hz. */
+chaffrail_timing chaffrail_vga_timing(void);
+
+/* Whether lines can be made of a timing. Refusals: 4 for a polarity; 7. */
+chaffrail_answer chaffrail_check_timing(chaffrail_timing timing);
+
+/* The control word while horizontal and vertical sync are on or off; 0 is off, else on. Value: the word of three lanes. Refusal: 4 for a polarity;
+ * the ranges aren't asked. */
+chaffrail_answer chaffrail_tmds3_for_sync(chaffrail_timing timing, uint8_t h_sync, uint8_t v_sync);
+
+/* The command to the expander to send the next words as they stand. Value: the command word. Refusal: 4 unless words is 1..4095. */
+chaffrail_answer chaffrail_hstx_cmd_raw(uint32_t words);
+
+/* The command to the expander to send the next word so many times. Value: the command word. Refusal: 4 unless times is 1..4095. */
+chaffrail_answer chaffrail_hstx_cmd_raw_repeat(uint32_t times);
 
 /* The 15 words of a blanking with a sync pulse, four bytes for each; v_sync is 0 for off, else on. Refusals: 1 unless line_len is 60; 4 for a
  * polarity; 7. */
@@ -150,6 +182,22 @@ chaffrail_answer chaffrail_encode_data_island(chaffrail_timing timing, uint8_t *
 
 /* The same with a packet of 36 zeros. Refusals: 1 unless line_len is 224; 4 for a state or a polarity; 7. */
 chaffrail_answer chaffrail_encode_data_island_empty(chaffrail_timing timing, uint8_t *line, size_t line_len, uint8_t state);
+
+/* The line counter says which line of a frame is sent, from 0 to the total of lines less one. The carry has its 32 bits, so (uint32_t)a.carry is the
+ * counter, whichever of the three functions answers. Refusals of all three: 4 for a polarity; 7; 8. */
+
+/* The counter one line on, and from the last line back to 0. Carry: the next counter. */
+chaffrail_answer chaffrail_counter_advance(uint32_t counter, chaffrail_timing timing);
+
+/* What the line is. Value: 0 front porch, 1 sync, 2 back porch, 3 active; carry: the counter. */
+chaffrail_answer chaffrail_counter_state(uint32_t counter, chaffrail_timing timing);
+
+/* The value for a line that shows no row of pixels. */
+#define CHAFFRAIL_NO_ROW UINT32_C(4294967295)
+
+/* The row of pixels that the line `offset` lines on shows; it doesn't wrap into the next frame. Value: the row, or CHAFFRAIL_NO_ROW; carry: the
+ * counter. Refused with 9 too, where counter and offset together don't fit 32 bits. */
+chaffrail_answer chaffrail_counter_row(uint32_t counter, chaffrail_timing timing, uint32_t offset);
 
 #ifdef __cplusplus
 }

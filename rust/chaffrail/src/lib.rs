@@ -118,6 +118,15 @@ pub fn read_symbol(symbol: u16) -> Result<u8, Refusal> {
     told(unsafe { raw::chaffrail_read_symbol(symbol) }).map(|a| a.value as u8)
 }
 
+/// The control symbol of the levels C0 and C1.
+///
+/// ```
+/// assert_eq!(chaffrail::control_symbol(true, false), 0x0ab);
+/// ```
+pub fn control_symbol(c0: bool, c1: bool) -> u16 {
+    unsafe { raw::chaffrail_control_symbol(c0 as u8, c1 as u8) }.value as u16
+}
+
 /// Two symbols in a word, the first in bits 0..9.
 pub fn join_symbols(first: u16, second: u16) -> Result<u32, Refusal> {
     told(unsafe { raw::chaffrail_join_symbols(first, second) }).map(|a| a.value)
@@ -182,6 +191,20 @@ pub fn read_terc4(symbol: u16) -> Result<u8, Refusal> {
     told(unsafe { raw::chaffrail_read_terc4(symbol) }).map(|a| a.value as u8)
 }
 
+/// Audio samples as bytes, low byte first: up to four frames, left then right, so 0, 4, 8, 12 or 16 bytes. The count says how many frames come
+/// before the next block of 192; answers the count after these.
+///
+/// ```
+/// let mut packet = [0; 36];
+/// let samples = [0x01, 0x00, 0xff, 0xff]; // 1 and -1
+/// assert_eq!(chaffrail::set_audio(&mut packet, &samples, 0), Ok(191));
+/// assert_eq!((&packet[..3], packet[10]), (&[2, 1, 0x10][..], 0x91));
+/// assert_eq!(chaffrail::set_audio(&mut packet, &samples, 192).unwrap_err().kind, chaffrail::Kind::FrameCount);
+/// ```
+pub fn set_audio(packet: &mut [u8], samples: &[u8], count: i32) -> Result<i32, Refusal> {
+    told(unsafe { raw::chaffrail_set_audio(packet.as_mut_ptr(), packet.len(), samples.as_ptr(), samples.len(), count) }).map(|a| a.carry)
+}
+
 /// Audio clock regeneration: CTS and N have 20 bits. A packet is 36 bytes.
 ///
 /// ```
@@ -242,6 +265,71 @@ pub fn encode_island(hv: u8, packet: &[u8], words: &mut [u8]) -> Result<(), Refu
     told(unsafe { raw::chaffrail_encode_island(hv, packet.as_ptr(), packet.len(), words.as_mut_ptr(), words.len()) }).map(|_| ())
 }
 
+/// The packet of an island of 36 words, four bytes each, low byte first; answers the sync pair. Nothing is written where a word is wrong.
+///
+/// ```
+/// let (mut packet, mut words, mut found) = ([0; 36], [0; 144], [0; 36]);
+/// chaffrail::set_audio_info_frame(&mut packet, 48000)?;
+/// chaffrail::encode_island(1, &packet, &mut words)?;
+/// assert_eq!(chaffrail::read_island(&words, &mut found), Ok(1));
+/// assert_eq!(found, packet);
+/// words[19] |= 0x40; // bit 30 of word 4
+/// let refused = chaffrail::read_island(&words, &mut found).unwrap_err();
+/// assert_eq!((refused.kind, refused.place), (chaffrail::Kind::HighBits, 4));
+/// # Ok::<(), chaffrail::Refusal>(())
+/// ```
+pub fn read_island(words: &[u8], packet: &mut [u8]) -> Result<u8, Refusal> {
+    told(unsafe { raw::chaffrail_read_island(words.as_ptr(), words.len(), packet.as_mut_ptr(), packet.len()) }).map(|a| a.value as u8)
+}
+
+/// 640 by 480 at 60 Hz, as the library has it.
+///
+/// ```
+/// assert_eq!(chaffrail::vga_timing(), chaffrail::VGA_TIMING);
+/// ```
+pub fn vga_timing() -> Timing {
+    unsafe { raw::chaffrail_vga_timing() }
+}
+
+/// Whether lines can be made of a timing.
+///
+/// ```
+/// let short = chaffrail::Timing { h_front_porch: 8, ..chaffrail::VGA_TIMING };
+/// assert_eq!(chaffrail::check_timing(chaffrail::VGA_TIMING), Ok(()));
+/// assert_eq!(chaffrail::check_timing(short).unwrap_err().kind, chaffrail::Kind::TimingRange);
+/// ```
+pub fn check_timing(timing: Timing) -> Result<(), Refusal> {
+    told(unsafe { raw::chaffrail_check_timing(timing) }).map(|_| ())
+}
+
+/// The control word of three lanes while horizontal and vertical sync are on or off.
+///
+/// ```
+/// assert_eq!(chaffrail::tmds3_for_sync(chaffrail::VGA_TIMING, false, false), Ok(0x354d52ab));
+/// ```
+pub fn tmds3_for_sync(timing: Timing, h_sync: bool, v_sync: bool) -> Result<u32, Refusal> {
+    told(unsafe { raw::chaffrail_tmds3_for_sync(timing, h_sync as u8, v_sync as u8) }).map(|a| a.value)
+}
+
+/// The command to send the next words as they stand, 1 to 4,095 of them.
+///
+/// ```
+/// assert_eq!(chaffrail::hstx_cmd_raw(36), Ok(36));
+/// assert_eq!(chaffrail::hstx_cmd_raw(0).unwrap_err().kind, chaffrail::Kind::Unlisted);
+/// ```
+pub fn hstx_cmd_raw(words: u32) -> Result<u32, Refusal> {
+    told(unsafe { raw::chaffrail_hstx_cmd_raw(words) }).map(|a| a.value)
+}
+
+/// The command to send the next word 1 to 4,095 times.
+///
+/// ```
+/// assert_eq!(chaffrail::hstx_cmd_raw_repeat(4095), Ok(0x1fff));
+/// ```
+pub fn hstx_cmd_raw_repeat(times: u32) -> Result<u32, Refusal> {
+    told(unsafe { raw::chaffrail_hstx_cmd_raw_repeat(times) }).map(|a| a.value)
+}
+
 /// The 15 words of a blanking with a sync pulse, four bytes each, low byte first.
 ///
 /// ```
@@ -280,4 +368,33 @@ pub fn encode_data_island(timing: Timing, line: &mut [u8], state: u8, packet: &[
 /// The same as [`encode_data_island`] with a packet of 36 zeros.
 pub fn encode_data_island_empty(timing: Timing, line: &mut [u8], state: u8) -> Result<(), Refusal> {
     told(unsafe { raw::chaffrail_encode_data_island_empty(timing, line.as_mut_ptr(), line.len(), state) }).map(|_| ())
+}
+
+/// The line counter one line on, and from the last line back to 0.
+///
+/// ```
+/// assert_eq!(chaffrail::counter_advance(524, chaffrail::VGA_TIMING), Ok(0));
+/// assert_eq!(chaffrail::counter_advance(525, chaffrail::VGA_TIMING).unwrap_err().kind, chaffrail::Kind::LineCounter);
+/// ```
+pub fn counter_advance(counter: u32, timing: Timing) -> Result<u32, Refusal> {
+    told(unsafe { raw::chaffrail_counter_advance(counter, timing) }).map(|a| a.carry as u32)
+}
+
+/// What the counter's line is: 0 front porch, 1 sync, 2 back porch, 3 active.
+///
+/// ```
+/// assert_eq!(chaffrail::counter_state(10, chaffrail::VGA_TIMING), Ok(1));
+/// ```
+pub fn counter_state(counter: u32, timing: Timing) -> Result<u8, Refusal> {
+    told(unsafe { raw::chaffrail_counter_state(counter, timing) }).map(|a| a.value as u8)
+}
+
+/// The row of pixels that the line `offset` lines on shows, where it shows one. It doesn't wrap into the next frame.
+///
+/// ```
+/// assert_eq!(chaffrail::counter_row(44, chaffrail::VGA_TIMING, 1), Ok(Some(0)));
+/// assert_eq!(chaffrail::counter_row(524, chaffrail::VGA_TIMING, 1), Ok(None));
+/// ```
+pub fn counter_row(counter: u32, timing: Timing, offset: u32) -> Result<Option<u32>, Refusal> {
+    told(unsafe { raw::chaffrail_counter_row(counter, timing, offset) }).map(|a| (a.value != raw::NO_ROW).then_some(a.value))
 }

@@ -30,6 +30,7 @@ pub struct Timing {
 extern "C" {
     pub fn chaffrail_encode_symbol(discrepancy: i32, byte: u8) -> Answer;
     pub fn chaffrail_read_symbol(symbol: u16) -> Answer;
+    pub fn chaffrail_control_symbol(c0: u8, c1: u8) -> Answer;
     pub fn chaffrail_join_symbols(first: u16, second: u16) -> Answer;
     pub fn chaffrail_encode_pair(b0: u8, b1: u8) -> Answer;
     pub fn chaffrail_encode_pair_discrepancy(b0: u8, b1: u8) -> Answer;
@@ -39,14 +40,27 @@ extern "C" {
     pub fn chaffrail_parity(block: *const u8, block_len: usize) -> Answer;
     pub fn chaffrail_terc4_symbol(number: u8) -> Answer;
     pub fn chaffrail_read_terc4(symbol: u16) -> Answer;
+    pub fn chaffrail_set_audio(packet: *mut u8, packet_len: usize, samples: *const u8, samples_len: usize, count: i32) -> Answer;
     pub fn chaffrail_set_audio_clock_regeneration(packet: *mut u8, packet_len: usize, cts: u32, n: u32) -> Answer;
     pub fn chaffrail_set_audio_info_frame(packet: *mut u8, packet_len: usize, rate: u32) -> Answer;
     #[allow(clippy::too_many_arguments)]
     pub fn chaffrail_set_avi_info_frame(packet: *mut u8, packet_len: usize, s: u32, y: u32, c: u32, m: u32, r: u32, q: u32, v: u32) -> Answer;
     pub fn chaffrail_encode_island(hv: u8, packet: *const u8, packet_len: usize, words: *mut u8, words_len: usize) -> Answer;
+    pub fn chaffrail_read_island(words: *const u8, words_len: usize, packet: *mut u8, packet_len: usize) -> Answer;
+    pub fn chaffrail_vga_timing() -> Timing;
+    pub fn chaffrail_check_timing(timing: Timing) -> Answer;
+    pub fn chaffrail_tmds3_for_sync(timing: Timing, h_sync: u8, v_sync: u8) -> Answer;
+    pub fn chaffrail_hstx_cmd_raw(words: u32) -> Answer;
+    pub fn chaffrail_hstx_cmd_raw_repeat(times: u32) -> Answer;
     pub fn chaffrail_make_sync_pulse(timing: Timing, v_sync: u8, line: *mut u8, line_len: usize) -> Answer;
     pub fn chaffrail_make_sync_line_only(timing: Timing, v_sync: u8, line: *mut u8, line_len: usize) -> Answer;
     pub fn chaffrail_init_data_island(timing: Timing, line: *mut u8, line_len: usize) -> Answer;
     pub fn chaffrail_encode_data_island(timing: Timing, line: *mut u8, line_len: usize, state: u8, packet: *const u8, packet_len: usize) -> Answer;
     pub fn chaffrail_encode_data_island_empty(timing: Timing, line: *mut u8, line_len: usize, state: u8) -> Answer;
+    pub fn chaffrail_counter_advance(counter: u32, timing: Timing) -> Answer;
+    pub fn chaffrail_counter_state(counter: u32, timing: Timing) -> Answer;
+    pub fn chaffrail_counter_row(counter: u32, timing: Timing, offset: u32) -> Answer;
 }
+
+/// The value of [`chaffrail_counter_row`] for a line that shows no row.
+pub const NO_ROW: u32 = 4294967295;

@@ -1,3 +1,0 @@
-pub mod Crossing
-pub mod Timing
-pub mod Words
