@@ -8,6 +8,7 @@ mod text;
 use libc::STDIN_FILENO;
 use libc::STDOUT_FILENO;
 ghost use mathlib.Core.Path.{_≡_};
+ghost use Prim.Native.Nat.{_<_};
 ghost use lib.ListN.{length};
 
 // How many kinds there are: their names stand in `main`, in the order of `agrees`.
@@ -66,14 +67,16 @@ fn judged(kind: usize, spelled: &[u8]) -> Outcome {
 }
 
 // Of each kind two counts stand side by side: the cases that agree, and those that differ.
-fn counted(counts: &[u64], at: usize) -> u64 {
-    if at < counts.len() { counts[at] } else { 0 }
+fn counted(counts: &[u64; 48], at: usize) -> u64
+    requires { ⌜ at < 48 ⌝ }
+{
+    counts[at]
 }
 
-fn count(counts: &mut [u64], at: usize) {
-    if at < counts.len() {
-        counts[at] = std::num::wrapping_add_u64(counts[at], 1);
-    }
+fn count(counts: &mut [u64; 48], at: usize)
+    requires { ⌜ at < 48 ⌝ }
+{
+    counts[at] = std::num::wrapping_add_u64(counts[at], 1);
 }
 
 fn say(words: &[u8]) {
@@ -93,7 +96,7 @@ fn say_line(number: u64, kind: &[u8], what: &[u8]) {
 }
 
 // Whether the case agrees. One that doesn't is said where it is the first of its kind or can't be read.
-fn case(kinds: &[u8], line: &[u8], number: u64, counts: &mut [u64]) -> bool {
+fn case(kinds: &[u8], line: &[u8], number: u64, counts: &mut [u64; 48]) -> bool {
     let end = text::find(line, 0, b' ');
     let kind = text::place(kinds, &line[0..end]);
     if KINDS <= kind {
@@ -134,7 +137,13 @@ fn is_comment(line: &[u8]) -> bool {
     }
 }
 
-fn line_done(kinds: &[u8], line: &[u8], number: u64, totals: Totals, counts: &mut [u64]) -> Totals {
+fn line_done(
+    kinds: &[u8],
+    line: &[u8],
+    number: u64,
+    totals: Totals,
+    counts: &mut [u64; 48],
+) -> Totals {
     if is_comment(line) {
         return totals;
     }
@@ -149,7 +158,7 @@ fn line_done(kinds: &[u8], line: &[u8], number: u64, totals: Totals, counts: &mu
     }
 }
 
-fn replay(kinds: &[u8], list: &[u8], counts: &mut [u64]) -> Totals {
+fn replay(kinds: &[u8], list: &[u8], counts: &mut [u64; 48]) -> Totals {
     let mut totals = Totals {
         cases: 0,
         different: 0,
@@ -178,7 +187,7 @@ fn say_kind(name: &[u8], agreed: u64, different: u64) {
     say(b"\n");
 }
 
-fn say_kinds(kinds: &[u8], counts: &[u64]) {
+fn say_kinds(kinds: &[u8], counts: &[u64; 48]) {
     let mut k = 0;
     let mut at = 0;
     while k < KINDS {

@@ -1,5 +1,4 @@
 -- `replay` goes from line to line.
-use mathlib.Core.Path.{_≡_}
 use Prim.Native.Nat.{_≤_, _-_}
 use lib.ListN.{length}
 use borrow.Author.Needs.{needs}
@@ -7,7 +6,7 @@ use Rattle.replay.proofs.replay.Statement.{statement}
 use Rattle.replay.proofs.replay.Tie as tie
 
 abbrev Inv-loop : tie.InvT-loop
-Inv-loop kinds list counts₀ totals₀ number₀ at₀ counts totals number at = (at ≤ length list) × (length counts ≡ length counts₀)
+Inv-loop kinds list counts₀ totals₀ number₀ at₀ counts totals number at = at ≤ length list
 
 abbrev μ-loop : tie.MeasureT-loop
 μ-loop kinds list counts₀ totals₀ number₀ at₀ counts totals number at = length list - at
@@ -42,9 +41,6 @@ loop-less c = search needs
 loop-again : tie.Need-loop-again Inv-loop μ-loop
 loop-again c = search needs
 
-same-length : tie.Need-same-length Inv-loop μ-loop
-same-length c = search needs
-
 returns : tie.Need-returns Inv-loop μ-loop
 returns c = search needs
 
@@ -64,5 +60,4 @@ replay-spec =
     after-requires
     loop-less
     loop-again
-    same-length
     returns)
