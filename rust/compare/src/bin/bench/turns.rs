@@ -33,7 +33,8 @@ pub fn read(bytes: &[u8]) {
 }
 
 pub fn row(name: &str, unit: &str, (theirs, ours): (f64, f64)) {
-    println!("| {:.1} | {name} | {theirs:.2} | {ours:.2} | ns a {unit} |", theirs / ours);
+    let article = if unit.starts_with('i') { "an" } else { "a" };
+    println!("| {:.1} | {name} | {theirs:.2} | {ours:.2} | ns {article} {unit} |", theirs / ours);
 }
 
 /// One call for each input.
