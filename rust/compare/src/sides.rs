@@ -127,6 +127,6 @@ pub fn words(bytes: &[u8]) -> Vec<u32> {
 
 /// Words as the bytes that they are, for ours to write into: on a host that has the low byte first these are the bytes that cross.
 pub fn as_bytes(words: &mut [u32]) -> &mut [u8] {
-    assert!(cfg!(target_endian = "little"));
+    const { assert!(cfg!(target_endian = "little")) };
     unsafe { std::slice::from_raw_parts_mut(words.as_mut_ptr().cast(), 4 * words.len()) }
 }

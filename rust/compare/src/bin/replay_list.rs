@@ -130,7 +130,7 @@ fn symbols(list: &mut List) {
     list.about("joined", "two symbols; pair");
     for i in 0..60 {
         let first = TmdsSymbol::encode(list.random.below(9) as i32 - 4, list.byte()).1;
-        let second = if i < 4 { control[i] } else { TmdsSymbol::encode(list.random.below(9) as i32 - 4, list.byte()).1 };
+        let second = control.get(i).copied().unwrap_or_else(|| TmdsSymbol::encode(list.random.below(9) as i32 - 4, list.byte()).1);
         list.add("joined", |c| c.two(number(first)).two(number(second)).answers().four(TmdsPair::new(first, second).raw()));
     }
 }

@@ -6,8 +6,11 @@ use compare::dvi::{hstx_cmd_raw, hstx_cmd_raw_repeat};
 use compare::sides::{original_state, original_timing, packet_of, timing, timing_of, words};
 use compare::Random;
 
-/// The lowest number of each field of a timing, and the timing with another number there. The highest is 4,095.
-const RANGES: [(u32, fn(Timing, u32) -> Timing); 8] = [
+/// A timing with another number in one field.
+type With = fn(Timing, u32) -> Timing;
+
+/// The lowest number of each field of a timing; the highest is 4,095.
+const RANGES: [(u32, With); 8] = [
     (9, |t, n| Timing { h_front_porch: n, ..t }),
     (37, |t, n| Timing { h_sync_width: n, ..t }),
     (11, |t, n| Timing { h_back_porch: n, ..t }),
@@ -20,7 +23,7 @@ const RANGES: [(u32, fn(Timing, u32) -> Timing); 8] = [
 
 /// Timings outside each range, and with polarities that are none.
 pub fn bad_timings() -> Vec<(Kind, Timing)> {
-    let beyond = |(low, with): (u32, fn(Timing, u32) -> Timing)| [0, low - 1, 4096, 1 << 31, u32::MAX].map(|n| (Kind::TimingRange, with(VGA_TIMING, n)));
+    let beyond = |(low, with): (u32, With)| [0, low - 1, 4096, 1 << 31, u32::MAX].map(|n| (Kind::TimingRange, with(VGA_TIMING, n)));
     let mut bad: Vec<_> = RANGES.into_iter().flat_map(beyond).collect();
     for polarity in [2, 3, 128, 255] {
         bad.push((Kind::Unlisted, Timing { h_sync_polarity: polarity, ..VGA_TIMING }));

@@ -30,29 +30,31 @@ fn lane(word: u32, lane: usize) -> Option<usize> {
     TERC4_SYMBOLS.iter().position(|&s| s as u32 == word >> (10 * lane) & 0x3ff)
 }
 
-/// What the rules say of 36 words: each is asked of every word in turn, the lowest number first.
-fn judge(words: &Island) -> Result<(u8, [u8; 36]), (Kind, u32)> {
-    let first = |kind: Kind, mut wrong: Box<dyn FnMut(usize) -> bool + '_>| match (0..36).find(|&i| wrong(i)) {
+/// Refuses at the first word that is wrong.
+fn asked(kind: Kind, wrong: impl Fn(usize) -> bool) -> Result<(), (Kind, u32)> {
+    match (0..36).find(|&i| wrong(i)) {
         Some(i) => Err((kind, i as u32)),
         None => Ok(()),
-    };
-    first(Kind::HighBits, Box::new(|i| words[i] >> 30 != 0))?;
+    }
+}
+
+/// What the rules say of 36 words: each is asked of every word in turn, the lowest number first.
+fn judge(words: &Island) -> Result<(u8, [u8; 36]), (Kind, u32)> {
+    asked(Kind::HighBits, |i| words[i] >> 30 != 0)?;
     let pair = (0..4).find(|&hv| words[0] == guard(hv));
-    first(Kind::GuardWord, Box::new(|i| [0, 1, 34, 35].contains(&i) && pair.map_or(true, |hv| words[i] != guard(hv))))?;
+    asked(Kind::GuardWord, |i| [0, 1, 34, 35].contains(&i) && pair.is_none_or(|hv| words[i] != guard(hv)))?;
     let hv = pair.unwrap();
     let inner = 2..34;
-    first(Kind::NotTerc4, Box::new(|i| inner.contains(&i) && (0..3).any(|l| lane(words[i], l).is_none())))?;
+    asked(Kind::NotTerc4, |i| inner.contains(&i) && (0..3).any(|l| lane(words[i], l).is_none()))?;
     let number = |i: usize, l: usize| lane(words[i], l).unwrap();
-    first(Kind::SyncBits, Box::new(|i| inner.contains(&i) && (number(i, 0) & 3 != hv || (number(i, 0) & 8 != 0) != (i > 2))))?;
+    asked(Kind::SyncBits, |i| inner.contains(&i) && (number(i, 0) & 3 != hv || (number(i, 0) & 8 != 0) != (i > 2)))?;
     let mut packet = [0u8; 36];
     for k in 0..32 {
-        let bit = |n: usize, at: usize| ((n >> at & 1) as u8) << (k % 8);
-        packet[k / 8] |= bit(number(k + 2, 0), 2);
+        let mut put = |block: usize, bit: usize, n: usize| packet[block + bit / 8] |= ((n & 1) as u8) << (bit % 8);
+        put(0, k, number(k + 2, 0) >> 2);
         for s in 0..4 {
-            for l in 1..3 {
-                let place = 2 * k + l - 1;
-                packet[4 + 8 * s + place / 8] |= ((number(k + 2, l) >> s & 1) as u8) << (place % 8);
-            }
+            put(4 + 8 * s, 2 * k, number(k + 2, 1) >> s);
+            put(4 + 8 * s, 2 * k + 1, number(k + 2, 2) >> s);
         }
     }
     if parity(&packet[..3]) != packet[3] {
