@@ -1,7 +1,7 @@
 //! The audio packet.
-use crate::tally::{refused, unchanged, Tally};
+use crate::tally::{handed_back, refused, unchanged, Tally};
 use chaffrail::raw::chaffrail_set_audio;
-use chaffrail::{Answer, Kind};
+use chaffrail::Kind;
 use compare::sides::built;
 use compare::Random;
 
@@ -51,10 +51,9 @@ pub fn refusals(t: &mut Tally) {
             unchanged(t, "audio's count", (count, n), Kind::FrameCount, 36, |p| chaffrail::set_audio(p, &samples[..n], count).map(|_| ()));
         }
         let mut lent = [0x5a; 36];
-        let back = |refusal: Kind| Answer { refusal: refusal as u32, place: 0, value: 0, carry: count };
         let ask = |lent: &mut [u8], n: usize| unsafe { chaffrail_set_audio(lent.as_mut_ptr(), lent.len(), samples.as_ptr(), n, count) };
-        t.same("count handed back", count, back(Kind::FrameCount), ask(&mut lent, 8));
-        t.same("count handed back with a length", count, back(Kind::Length), ask(&mut lent, 6));
+        t.same("count handed back", count, handed_back(Kind::FrameCount, count), ask(&mut lent, 8));
+        t.same("count handed back with a length", count, handed_back(Kind::Length, count), ask(&mut lent, 6));
     }
     t.same("the lowest count that is taken", 0, None, refused(chaffrail::set_audio(&mut [0; 36], &samples[..4], 0)));
     t.same("the highest count that is taken", 191, None, refused(chaffrail::set_audio(&mut [0; 36], &samples[..4], 191)));

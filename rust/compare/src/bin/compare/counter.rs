@@ -1,5 +1,5 @@
 //! The line counter.
-use crate::tally::Tally;
+use crate::tally::{handed_back, Tally};
 use chaffrail::raw::{chaffrail_counter_advance, chaffrail_counter_row, chaffrail_counter_state, NO_ROW};
 use chaffrail::{Answer, Kind, Timing, VGA_TIMING};
 use compare::dvi::timing::DviTimingState;
@@ -15,9 +15,8 @@ fn given(value: u32, carry: u32) -> Answer {
     Answer { refusal: 0, place: 0, value, carry: carry as i32 }
 }
 
-/// The counter is handed back.
 fn refused(kind: Kind, counter: u32) -> Answer {
-    Answer { refusal: kind as u32, place: 0, value: 0, carry: counter as i32 }
+    handed_back(kind, counter as i32)
 }
 
 fn total(t: Timing) -> u32 {

@@ -1,6 +1,7 @@
 //! Rows, written and read.
-use crate::tally::{refused, Tally};
-use chaffrail::Kind;
+use crate::tally::{handed_back, refused, Tally};
+use chaffrail::raw::chaffrail_encode_row;
+use chaffrail::{Answer, Kind};
 use compare::sides::original_row;
 use compare::Random;
 
@@ -21,6 +22,11 @@ pub fn rows(t: &mut Tally, random: &mut Random) {
     }
 }
 
+/// The whole answer.
+fn encoded(d: i32, bytes: &[u8], symbols: &mut [u8]) -> Answer {
+    unsafe { chaffrail_encode_row(d, bytes.as_ptr(), bytes.len(), symbols.as_mut_ptr(), symbols.len()) }
+}
+
 /// Wrong lengths, a discrepancy out of range and a symbol that is none: refused, with the buffer as it was.
 fn damaged_row(t: &mut Tally, random: &mut Random, d: i32, bytes: &[u8], symbols: &[u8]) {
     for room in [symbols.len() + 1, symbols.len() + 2, symbols.len().wrapping_sub(1), 0] {
@@ -28,12 +34,12 @@ fn damaged_row(t: &mut Tally, random: &mut Random, d: i32, bytes: &[u8], symbols
             continue;
         }
         let mut out = vec![0x33; room];
-        t.same("row's room", (bytes.len(), room), Some((Kind::Length, 0)), refused(chaffrail::encode_row(d, bytes, &mut out)));
+        t.same("row's room", (bytes.len(), room), handed_back(Kind::Length, d), encoded(d, bytes, &mut out));
         t.all("row's room untouched", room, &vec![0x33; room], &out);
     }
     let mut out = vec![0x33; symbols.len()];
     let off = if random.below(2) == 0 { 5 + random.below(1000) as i32 } else { -5 - random.below(1000) as i32 };
-    t.same("row's discrepancy", off, Some((Kind::Discrepancy, 0)), refused(chaffrail::encode_row(off, bytes, &mut out)));
+    t.same("row's discrepancy", off, handed_back(Kind::Discrepancy, off), encoded(off, bytes, &mut out));
     t.all("row refused, untouched", off, &vec![0x33; symbols.len()], &out);
     if bytes.is_empty() {
         return;

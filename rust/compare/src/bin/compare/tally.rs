@@ -1,5 +1,5 @@
 //! What is compared, and what is said of it.
-use chaffrail::Kind;
+use chaffrail::{Answer, Kind};
 use std::fmt::Debug;
 
 /// Counts comparisons, and prints the first difference of each kind. Inputs come smallest first.
@@ -34,6 +34,11 @@ impl Tally {
 
 pub fn refused<T>(answer: Result<T, chaffrail::Refusal>) -> Option<(Kind, u32)> {
     answer.err().map(|r| (r.kind, r.place))
+}
+
+/// The whole answer of a refused call that hands back what was to be carried.
+pub fn handed_back(kind: Kind, carry: i32) -> Answer {
+    Answer { refusal: kind as u32, place: 0, value: 0, carry }
 }
 
 /// A refused call leaves the packet as it was.
