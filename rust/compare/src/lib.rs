@@ -5,6 +5,7 @@ extern crate self as fugit;
 pub use original::{dvi, KilohertzU32};
 
 pub mod original;
+pub mod sides;
 
 use dvi::tmds::{TmdsPair, TmdsSymbol};
 
