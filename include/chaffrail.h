@@ -61,7 +61,7 @@ enum chaffrail_refusal {
     CHAFFRAIL_SUBPACKET_PARITY = 17  /* a subpacket's parity is wrong; the place is the subpacket */
 };
 
-/* What every function answers. */
+/* What every function answers, but for chaffrail_vga_timing. */
 typedef struct chaffrail_answer {
     uint32_t refusal; /* 0, or the refusal's number */
     uint32_t place;   /* where the refusal was met; 0 where it has no place */

@@ -7,7 +7,6 @@ ghost use mathlib.Core.List.{[], _∷_};
 ghost use lib.Bits.{bitXor};
 ghost use lib.IntN.{pos};
 ghost use lib.ListN.{length, replicate};
-ghost use Prim.Native.Nat.{_/_};
 ghost use Rattle.dvi.specs.Control.{control, pairOf};
 ghost use Rattle.symbol.specs.Encode.{encodeOf};
 ghost use Rattle.symbol.specs.Pair.{joinOf, wordOf, endOf, balancedOf};
