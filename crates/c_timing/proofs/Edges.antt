@@ -9,6 +9,7 @@ use Rattle.timing.specs.declared.DviTiming.{DviTiming}
 use Rattle.timing.specs.Command.{commandOf}
 use Rattle.timing.specs.Sync.{syncWordOf}
 use Rattle.timing.specs.Timing.{timingAsks, ranges, vga}
+use Rattle.crossing.specs.declared.Timing.{Timing}
 use Rattle.crossing.specs.Crossing.{given, refused, told}
 use Rattle.crossing.specs.Timing.{timingOf, crossing, isOn}
 use Rattle.c_timing.specs.Crossing.{commanded, synced}
@@ -16,6 +17,9 @@ use Rattle.c_timing.specs.Crossing.{commanded, synced}
 -- the timing that crosses is the timing, both ways
 pub timing-back : (t : DviTiming) → timingOf (crossing t) ≡ t
 timing-back t = refl
+
+pub crossing-back : (t : Timing) → crossing (timingOf t) ≡ t
+crossing-back t = refl
 
 -- every level but 0 is on
 pub levels : (isOn 0 ≡ false) × (isOn 1 ≡ true) × (isOn 2 ≡ true) × (isOn 255 ≡ true)
