@@ -10,7 +10,7 @@ ghost use Rattle.refusal.specs.Verdict.{verdict, answered, kept};
 ghost use Rattle.hdmi.specs.Parity.{withParity};
 ghost use Rattle.laws.specs.Bytes.{lowFirst};
 ghost use Rattle.hdmi.specs.Audio.{twos, frames, frameBytes, blockStart, audioPacket, countAfter};
-ghost use Rattle.parity.specs.Arms.{Arm};
+ghost use Rattle.laws.specs.Arms.{Arm};
 ghost use Rattle.audio.specs.Asks.{audioAsks};
 ghost use Rattle.audio.specs.Frames.{frameOf, Framed, digitRule, digitKey, headerRule, headerKey};
 

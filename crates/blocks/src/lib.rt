@@ -1,4 +1,4 @@
-// Blocks with their parity bytes, and a packet put together of five.
+// A packet put together of its five blocks.
 use refusal::Refusal;
 use refusal::Verdict;
 ghost use mathlib.Core.Path.{_≡_};
@@ -8,51 +8,9 @@ ghost use lib.ListN.{length, getD};
 ghost use lib.Seq.{sets};
 ghost use Rattle.laws.specs.Bytes.{lowFirst};
 ghost use Rattle.refusal.specs.Verdict.{verdict, kept};
-ghost use Rattle.hdmi.specs.Parity.{withParity};
 ghost use Rattle.blocks.specs.Asks.{packetAsks};
 
-// The header of three data bytes.
-pub fn header(a: u8, b: u8, c: u8) -> [u8; 4]
-    ensures { λ r. ⌜ r ≡ withParity (a ∷ b ∷ c ∷ []) ⌝ }
-{
-    [a, b, c, parity::header_parity([a, b, c])]
-}
-
-// The subpacket of seven data bytes.
-pub fn subpacket(a: u8, b: u8, c: u8, d: u8, e: u8, f: u8, g: u8) -> [u8; 8]
-    ensures { λ r. ⌜ r ≡ withParity (a ∷ b ∷ c ∷ d ∷ e ∷ f ∷ g ∷ []) ⌝ }
-{
-    [
-        a,
-        b,
-        c,
-        d,
-        e,
-        f,
-        g,
-        parity::subpacket_parity([a, b, c, d, e, f, g]),
-    ]
-}
-
-// A header and four subpackets, end to end.
-pub fn join(
-    packet: &mut [u8],
-    h: [u8; 4],
-    a: [u8; 8],
-    b: [u8; 8],
-    c: [u8; 8],
-    d: [u8; 8],
-) -> Verdict
-    ensures { λ r. ⌜ (r ≡ verdict (packetAsks (now (packet .entry)))) × (now (packet .exit) ≡ kept (verdict (packetAsks (now (packet .entry)))) (h ++ (a ++ (b ++ (c ++ d)))) (now (packet .entry))) ⌝ }
-{
-    let u = parity::word_of(a);
-    let v = parity::word_of(b);
-    let w = parity::word_of(c);
-    let x = parity::word_of(d);
-    join_words(packet, h, u, v, w, x)
-}
-
-// The same with each subpacket a word, its first byte in the lowest bits.
+// A header and four subpackets, end to end: each subpacket is a word, its first byte in the lowest bits.
 pub fn join_words(packet: &mut [u8], h: [u8; 4], a: u64, b: u64, c: u64, d: u64) -> Verdict
     ensures { λ r. ⌜ (r ≡ verdict (packetAsks (now (packet .entry)))) × (now (packet .exit) ≡ kept (verdict (packetAsks (now (packet .entry)))) (h ++ (lowFirst 8 a ++ (lowFirst 8 b ++ (lowFirst 8 c ++ lowFirst 8 d)))) (now (packet .entry))) ⌝ }
 {

@@ -1,11 +1,14 @@
--- What the last arm of a match knows, where the arms before it have the keys 0, 1, 2 and so on, and the number is at most one more.
-use mathlib.Core.Path.{_≡_}
+-- A table that stands as the arms of a `match`: it has its rule at every key (`armed`); and the last arm, where the others have the keys 0, 1, 2 and
+-- so on, is that of the next one (`last-arm`).
+use mathlib.Core.Path.{_≡_, sym, ap, _∙_}
+use mathlib.Core.Bool.{Bool, true, false}
 use mathlib.Core.Logic.{⊎-elim}
 use mathlib.Core.List.{[], _∷_}
-use Prim.Native.Nat.{ℕ, zero, suc, _<_}
+use Prim.Native.Nat.{ℕ, zero, suc, _+_, _≤_, _<_}
 use native.Mathlib.Nat.{eq-or-lt-of-le, le-of-suc-le-suc}
 use native.Mathlib.Omega.{arith}
 use types.Run.{OneOf}
+use Rattle.laws.specs.Arms.{NoKey, Arm}
 
 -- x is none of the keys below n
 abbrev pub Others : ℕ → ℕ → Type 0
@@ -16,3 +19,12 @@ pub last-arm : (n x : ℕ) → x < suc n → Others n x → x ≡ n
 last-arm zero x h others = omega arith
 last-arm (suc n) x h others =
     ⊎-elim (λ e. e) (λ (l : x < suc n). absurd (others .1 (last-arm n x l (others .0)))) (eq-or-lt-of-le (le-of-suc-le-suc h))
+
+no-key : (x i n : ℕ) → i ≤ x → x < i + n → NoKey x i n → ⊥
+no-key x i zero l h k = absurd (omega arith)
+no-key x i (suc n) l h k =
+    ⊎-elim (λ (e : x ≡ i + n). k .1 e) (λ (s : x < i + n). no-key x i n l s (k .0)) (eq-or-lt-of-le (omega arith))
+
+pub armed : (rule key : ℕ → ℕ) (i n x r : ℕ) (b : Bool) → Arm b rule key i n x r → i ≤ x → x < i + n → r ≡ rule x
+armed rule key i n x r false a l h = sym (a .1) ∙ ap rule (a .0)
+armed rule key i n x r true a l h = absurd (no-key x i n l h a)

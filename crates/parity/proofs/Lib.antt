@@ -1,4 +1,3 @@
-pub mod Armed
 pub mod Division
 pub mod Running
 pub mod Sealing

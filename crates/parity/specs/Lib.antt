@@ -1,4 +1,3 @@
-pub mod Arms
 pub mod Seal
 pub mod Steps
 pub mod Word

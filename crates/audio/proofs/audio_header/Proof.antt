@@ -7,7 +7,7 @@ use borrow.Author.Needs.{needs}
 use lib.Dec.{eqb}
 use Rattle.laws.specs.Bytes.{lowFirst}
 use Rattle.hdmi.specs.Parity.{withParity}
-use Rattle.parity.proofs.Armed.{armed}
+use Rattle.laws.proofs.Arms.{armed}
 use Rattle.audio.specs.Frames.{headerRule, headerKey}
 use Rattle.audio.proofs.Headers.{header-bytes}
 use Rattle.audio.proofs.audio_header.Statement.{statement}

@@ -6,8 +6,8 @@ use borrow.Author.Needs.{needs}
 use lib.Bits.{bitXor}
 use lib.Dec.{eqb}
 use Rattle.laws.specs.Bytes.{lowFirst}
-use Rattle.parity.specs.Arms.{Arm}
-use Rattle.parity.proofs.Armed.{armed}
+use Rattle.laws.specs.Arms.{Arm}
+use Rattle.laws.proofs.Arms.{armed}
 use Rattle.audio.specs.Frames.{digitRule, digitKey}
 use Rattle.audio.proofs.Digits.{added, left-digits, right-digits, digits-added, frame-sealed}
 use Rattle.audio.proofs.frame_word.Statement.{statement}

@@ -4,6 +4,7 @@ use native.Mathlib.Omega.{arith}
 use borrow.Author.Needs.{needs}
 use denote.Ref.{now}
 use lib.ListN.{length}
+use Rattle.hdmi.proofs.Parity.{eight}
 use Rattle.parity.proofs.Running.{Running, running-start, running-next, running-end}
 use Rattle.parity.proofs.compute_bch.Statement.{statement}
 use Rattle.parity.proofs.compute_bch.Tie as tie
@@ -30,6 +31,7 @@ loop-less : tie.Need-loop-less Inv-loop μ-loop
 loop-less c = search needs
 
 loop-again : tie.Need-loop-again Inv-loop μ-loop
+unfolding eight
 loop-again c =
     let l = c .before .before .before .loop in
     let block = now (c .before .before .before .before .before .args .block) in

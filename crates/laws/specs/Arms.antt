@@ -2,9 +2,7 @@
 -- it stands at, and the rule at that key is the answer: both are found by computing.
 use mathlib.Core.Path.{_≡_}
 use mathlib.Core.Bool.{Bool, true, false}
-use Prim.Native.Nat.{ℕ, zero, suc, _+_, _-_, _*_, _/_}
-use lib.Bits.{bitXor}
-use Rattle.hdmi.specs.Parity.{register, bitsOf}
+use Prim.Native.Nat.{ℕ, zero, suc, _+_}
 
 -- x is none of the n keys from i on
 abbrev pub NoKey : ℕ → ℕ → ℕ → Type 0
@@ -15,15 +13,3 @@ NoKey x i (suc n) = NoKey x i n × (x ≡ i + n → ⊥)
 abbrev pub Arm : Bool → (rule key : ℕ → ℕ) → (i n x r : ℕ) → Type 0
 Arm false rule key i n x r = (key r ≡ x) × (rule (key r) ≡ r)
 Arm true rule key i n x r = NoKey x i n
-
--- ---- the register after a byte, with keys from 256 on
-
-abbrev pub afterRule : ℕ → ℕ
-afterRule x = register 0 (bitsOf 8 (x - 256))
-
--- one step back, where a 0 came in: the generator's highest bit says whether it was added
-abbrev pub stepBack : ℕ → ℕ
-stepBack v = 2 * bitXor v (v / 128 * 0x83) + v / 128
-
-abbrev pub afterKey : ℕ → ℕ
-afterKey v = 256 + stepBack (stepBack (stepBack (stepBack (stepBack (stepBack (stepBack (stepBack v)))))))

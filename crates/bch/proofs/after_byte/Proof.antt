@@ -1,14 +1,14 @@
--- `parity::after_byte`: the arm at the byte's key, which is one of the 256.
+-- `bch::after_byte`: the arm at the byte's key, which is one of the 256.
 use mathlib.Core.Path.{_≡_, ap, subst, sym, _∙_}
 use Prim.Native.Nat.{ℕ, _+_, _-_, _<_}
 use native.Mathlib.Omega.{arith}
 use borrow.Author.Needs.{needs}
 use lib.Dec.{eqb}
 use Rattle.hdmi.proofs.Parity.{eight, eight-lt}
-use Rattle.parity.specs.Arms.{afterRule, afterKey}
-use Rattle.parity.proofs.Armed.{armed}
-use Rattle.parity.proofs.after_byte.Statement.{statement}
-use Rattle.parity.proofs.after_byte.Tie as tie
+use Rattle.bch.specs.Byte.{afterRule, afterKey}
+use Rattle.laws.proofs.Arms.{armed}
+use Rattle.bch.proofs.after_byte.Statement.{statement}
+use Rattle.bch.proofs.after_byte.Tie as tie
 
 ruled : (x r : ℕ) → r ≡ afterRule (256 + x) → r ≡ eight x
 unfolding eight
@@ -30,6 +30,7 @@ cast-result c =
     record { fits = subst (λ (y : ℕ). y < 256) (sym e) (eight-lt x (omega arith)) }
 
 returns : tie.Need-returns
+unfolding eight
 returns c =
     let x = c .before .args .x in
     let r = c .after-arm .result in
