@@ -91,6 +91,7 @@ impl std::fmt::Display for Refusal {
 
 impl std::error::Error for Refusal {}
 
+#[inline]
 fn told(a: Answer) -> Result<Answer, Refusal> {
     match a.refusal {
         0 => Ok(a),
@@ -104,6 +105,7 @@ fn told(a: Answer) -> Result<Answer, Refusal> {
 /// assert_eq!(chaffrail::encode_symbol(0, 0x10), Ok((0x1f0, 0)));
 /// assert_eq!(chaffrail::encode_symbol(5, 0x10).unwrap_err().kind, chaffrail::Kind::Discrepancy);
 /// ```
+#[inline]
 pub fn encode_symbol(discrepancy: i32, byte: u8) -> Result<(u16, i32), Refusal> {
     told(unsafe { raw::chaffrail_encode_symbol(discrepancy, byte) }).map(|a| (a.value as u16, a.carry))
 }
@@ -114,6 +116,7 @@ pub fn encode_symbol(discrepancy: i32, byte: u8) -> Result<(u16, i32), Refusal> 
 /// assert_eq!(chaffrail::read_symbol(0x3ff), Ok(0));
 /// assert_eq!(chaffrail::read_symbol(0x354).unwrap_err().kind, chaffrail::Kind::NotData);
 /// ```
+#[inline]
 pub fn read_symbol(symbol: u16) -> Result<u8, Refusal> {
     told(unsafe { raw::chaffrail_read_symbol(symbol) }).map(|a| a.value as u8)
 }
@@ -123,21 +126,25 @@ pub fn read_symbol(symbol: u16) -> Result<u8, Refusal> {
 /// ```
 /// assert_eq!(chaffrail::control_symbol(true, false), 0x0ab);
 /// ```
+#[inline]
 pub fn control_symbol(c0: bool, c1: bool) -> u16 {
     unsafe { raw::chaffrail_control_symbol(c0 as u8, c1 as u8) }.value as u16
 }
 
 /// Two symbols in a word, the first in bits 0..9.
+#[inline]
 pub fn join_symbols(first: u16, second: u16) -> Result<u32, Refusal> {
     told(unsafe { raw::chaffrail_join_symbols(first, second) }).map(|a| a.value)
 }
 
 /// The word of two bytes that leave a lane where it stood.
+#[inline]
 pub fn encode_pair(b0: u8, b1: u8) -> Result<u32, Refusal> {
     told(unsafe { raw::chaffrail_encode_pair(b0, b1) }).map(|a| a.value)
 }
 
 /// The word of two bytes on a lane that stands at 0, and where they leave it.
+#[inline]
 pub fn encode_pair_discrepancy(b0: u8, b1: u8) -> (u32, i32) {
     let a = unsafe { raw::chaffrail_encode_pair_discrepancy(b0, b1) };
     (a.value, a.carry)
@@ -148,11 +155,13 @@ pub fn encode_pair_discrepancy(b0: u8, b1: u8) -> (u32, i32) {
 /// ```
 /// assert_eq!(chaffrail::encode_balanced_approx(0), Ok(0x7fd00));
 /// ```
+#[inline]
 pub fn encode_balanced_approx(byte: u8) -> Result<u32, Refusal> {
     told(unsafe { raw::chaffrail_encode_balanced_approx(byte) }).map(|a| a.value)
 }
 
 /// The symbols of a row, or of a piece of one, two bytes each, low byte first; answers the discrepancy after it. At most 4,096 bytes a call.
+#[inline]
 pub fn encode_row(discrepancy: i32, bytes: &[u8], symbols: &mut [u8]) -> Result<i32, Refusal> {
     told(unsafe { raw::chaffrail_encode_row(discrepancy, bytes.as_ptr(), bytes.len(), symbols.as_mut_ptr(), symbols.len()) }).map(|a| a.carry)
 }
@@ -164,6 +173,7 @@ pub fn encode_row(discrepancy: i32, bytes: &[u8], symbols: &mut [u8]) -> Result<
 /// let refused = chaffrail::read_row(&[0x00, 0x01, 0x54, 0x03], &mut bytes).unwrap_err();
 /// assert_eq!((refused.kind, refused.place, bytes), (chaffrail::Kind::NotData, 1, [7; 2]));
 /// ```
+#[inline]
 pub fn read_row(symbols: &[u8], bytes: &mut [u8]) -> Result<(), Refusal> {
     told(unsafe { raw::chaffrail_read_row(symbols.as_ptr(), symbols.len(), bytes.as_mut_ptr(), bytes.len()) }).map(|_| ())
 }
@@ -173,11 +183,13 @@ pub fn read_row(symbols: &[u8], bytes: &mut [u8]) -> Result<(), Refusal> {
 /// ```
 /// assert_eq!(chaffrail::parity(&[1, 0, 0]), 0x4a);
 /// ```
+#[inline]
 pub fn parity(block: &[u8]) -> u8 {
     unsafe { raw::chaffrail_parity(block.as_ptr(), block.len()) }.value as u8
 }
 
 /// TERC4 of a number below 16.
+#[inline]
 pub fn terc4_symbol(number: u8) -> Result<u16, Refusal> {
     told(unsafe { raw::chaffrail_terc4_symbol(number) }).map(|a| a.value as u16)
 }
@@ -187,6 +199,7 @@ pub fn terc4_symbol(number: u8) -> Result<u16, Refusal> {
 /// ```
 /// assert_eq!(chaffrail::terc4_symbol(15).and_then(chaffrail::read_terc4), Ok(15));
 /// ```
+#[inline]
 pub fn read_terc4(symbol: u16) -> Result<u8, Refusal> {
     told(unsafe { raw::chaffrail_read_terc4(symbol) }).map(|a| a.value as u8)
 }
@@ -201,6 +214,7 @@ pub fn read_terc4(symbol: u16) -> Result<u8, Refusal> {
 /// assert_eq!((&packet[..3], packet[10]), (&[2, 1, 0x10][..], 0x91));
 /// assert_eq!(chaffrail::set_audio(&mut packet, &samples, 192).unwrap_err().kind, chaffrail::Kind::FrameCount);
 /// ```
+#[inline]
 pub fn set_audio(packet: &mut [u8], samples: &[u8], count: i32) -> Result<i32, Refusal> {
     told(unsafe { raw::chaffrail_set_audio(packet.as_mut_ptr(), packet.len(), samples.as_ptr(), samples.len(), count) }).map(|a| a.carry)
 }
@@ -213,11 +227,13 @@ pub fn set_audio(packet: &mut [u8], samples: &[u8], count: i32) -> Result<i32, R
 /// assert_eq!(packet[..4], [1, 0, 0, 0x4a]);
 /// # Ok::<(), chaffrail::Refusal>(())
 /// ```
+#[inline]
 pub fn set_audio_clock_regeneration(packet: &mut [u8], cts: u32, n: u32) -> Result<(), Refusal> {
     told(unsafe { raw::chaffrail_set_audio_clock_regeneration(packet.as_mut_ptr(), packet.len(), cts, n) }).map(|_| ())
 }
 
 /// Audio info: two channels of 16 bits at this rate.
+#[inline]
 pub fn set_audio_info_frame(packet: &mut [u8], rate: u32) -> Result<(), Refusal> {
     told(unsafe { raw::chaffrail_set_audio_info_frame(packet.as_mut_ptr(), packet.len(), rate) }).map(|_| ())
 }
@@ -243,6 +259,7 @@ pub struct Avi {
 /// assert_eq!(packet[4], 0x46);
 /// # Ok::<(), chaffrail::Refusal>(())
 /// ```
+#[inline]
 pub fn set_avi_info_frame(packet: &mut [u8], f: Avi) -> Result<(), Refusal> {
     told(unsafe {
         raw::chaffrail_set_avi_info_frame(
@@ -261,6 +278,7 @@ pub fn set_avi_info_frame(packet: &mut [u8], f: Avi) -> Result<(), Refusal> {
 }
 
 /// The 36 words of an island with one packet, four bytes each, low byte first.
+#[inline]
 pub fn encode_island(hv: u8, packet: &[u8], words: &mut [u8]) -> Result<(), Refusal> {
     told(unsafe { raw::chaffrail_encode_island(hv, packet.as_ptr(), packet.len(), words.as_mut_ptr(), words.len()) }).map(|_| ())
 }
@@ -278,6 +296,7 @@ pub fn encode_island(hv: u8, packet: &[u8], words: &mut [u8]) -> Result<(), Refu
 /// assert_eq!((refused.kind, refused.place), (chaffrail::Kind::HighBits, 4));
 /// # Ok::<(), chaffrail::Refusal>(())
 /// ```
+#[inline]
 pub fn read_island(words: &[u8], packet: &mut [u8]) -> Result<u8, Refusal> {
     told(unsafe { raw::chaffrail_read_island(words.as_ptr(), words.len(), packet.as_mut_ptr(), packet.len()) }).map(|a| a.value as u8)
 }
@@ -287,6 +306,7 @@ pub fn read_island(words: &[u8], packet: &mut [u8]) -> Result<u8, Refusal> {
 /// ```
 /// assert_eq!(chaffrail::vga_timing(), chaffrail::VGA_TIMING);
 /// ```
+#[inline]
 pub fn vga_timing() -> Timing {
     unsafe { raw::chaffrail_vga_timing() }
 }
@@ -298,6 +318,7 @@ pub fn vga_timing() -> Timing {
 /// assert_eq!(chaffrail::check_timing(chaffrail::VGA_TIMING), Ok(()));
 /// assert_eq!(chaffrail::check_timing(short).unwrap_err().kind, chaffrail::Kind::TimingRange);
 /// ```
+#[inline]
 pub fn check_timing(timing: Timing) -> Result<(), Refusal> {
     told(unsafe { raw::chaffrail_check_timing(timing) }).map(|_| ())
 }
@@ -307,6 +328,7 @@ pub fn check_timing(timing: Timing) -> Result<(), Refusal> {
 /// ```
 /// assert_eq!(chaffrail::tmds3_for_sync(chaffrail::VGA_TIMING, false, false), Ok(0x354d52ab));
 /// ```
+#[inline]
 pub fn tmds3_for_sync(timing: Timing, h_sync: bool, v_sync: bool) -> Result<u32, Refusal> {
     told(unsafe { raw::chaffrail_tmds3_for_sync(timing, h_sync as u8, v_sync as u8) }).map(|a| a.value)
 }
@@ -317,6 +339,7 @@ pub fn tmds3_for_sync(timing: Timing, h_sync: bool, v_sync: bool) -> Result<u32,
 /// assert_eq!(chaffrail::hstx_cmd_raw(36), Ok(36));
 /// assert_eq!(chaffrail::hstx_cmd_raw(0).unwrap_err().kind, chaffrail::Kind::Unlisted);
 /// ```
+#[inline]
 pub fn hstx_cmd_raw(words: u32) -> Result<u32, Refusal> {
     told(unsafe { raw::chaffrail_hstx_cmd_raw(words) }).map(|a| a.value)
 }
@@ -326,6 +349,7 @@ pub fn hstx_cmd_raw(words: u32) -> Result<u32, Refusal> {
 /// ```
 /// assert_eq!(chaffrail::hstx_cmd_raw_repeat(4095), Ok(0x1fff));
 /// ```
+#[inline]
 pub fn hstx_cmd_raw_repeat(times: u32) -> Result<u32, Refusal> {
     told(unsafe { raw::chaffrail_hstx_cmd_raw_repeat(times) }).map(|a| a.value)
 }
@@ -338,16 +362,19 @@ pub fn hstx_cmd_raw_repeat(times: u32) -> Result<u32, Refusal> {
 /// assert_eq!(line[..4], [0x10, 0x10, 0, 0]); // one word, 16 times
 /// # Ok::<(), chaffrail::Refusal>(())
 /// ```
+#[inline]
 pub fn make_sync_pulse(timing: Timing, v_sync: bool, line: &mut [u8]) -> Result<(), Refusal> {
     told(unsafe { raw::chaffrail_make_sync_pulse(timing, v_sync as u8, line.as_mut_ptr(), line.len()) }).map(|_| ())
 }
 
 /// The 11 words of a line without pixels, four bytes each, low byte first.
+#[inline]
 pub fn make_sync_line_only(timing: Timing, v_sync: bool, line: &mut [u8]) -> Result<(), Refusal> {
     told(unsafe { raw::chaffrail_make_sync_line_only(timing, v_sync as u8, line.as_mut_ptr(), line.len()) }).map(|_| ())
 }
 
 /// The command words of an island line of 56 words, at 0, 2, 4, 41, 43 and 45; the others stay as lent.
+#[inline]
 pub fn init_data_island(timing: Timing, line: &mut [u8]) -> Result<(), Refusal> {
     told(unsafe { raw::chaffrail_init_data_island(timing, line.as_mut_ptr(), line.len()) }).map(|_| ())
 }
@@ -361,11 +388,13 @@ pub fn init_data_island(timing: Timing, line: &mut [u8]) -> Result<(), Refusal> 
 /// assert_eq!(line[..8], [0x08, 0x10, 0, 0, 0xab, 0x52, 0x4d, 0x35]);
 /// # Ok::<(), chaffrail::Refusal>(())
 /// ```
+#[inline]
 pub fn encode_data_island(timing: Timing, line: &mut [u8], state: u8, packet: &[u8]) -> Result<(), Refusal> {
     told(unsafe { raw::chaffrail_encode_data_island(timing, line.as_mut_ptr(), line.len(), state, packet.as_ptr(), packet.len()) }).map(|_| ())
 }
 
 /// The same as [`encode_data_island`] with a packet of 36 zeros.
+#[inline]
 pub fn encode_data_island_empty(timing: Timing, line: &mut [u8], state: u8) -> Result<(), Refusal> {
     told(unsafe { raw::chaffrail_encode_data_island_empty(timing, line.as_mut_ptr(), line.len(), state) }).map(|_| ())
 }
@@ -376,6 +405,7 @@ pub fn encode_data_island_empty(timing: Timing, line: &mut [u8], state: u8) -> R
 /// assert_eq!(chaffrail::counter_advance(524, chaffrail::VGA_TIMING), Ok(0));
 /// assert_eq!(chaffrail::counter_advance(525, chaffrail::VGA_TIMING).unwrap_err().kind, chaffrail::Kind::LineCounter);
 /// ```
+#[inline]
 pub fn counter_advance(counter: u32, timing: Timing) -> Result<u32, Refusal> {
     told(unsafe { raw::chaffrail_counter_advance(counter, timing) }).map(|a| a.carry as u32)
 }
@@ -392,6 +422,7 @@ pub fn counter_advance(counter: u32, timing: Timing) -> Result<u32, Refusal> {
 /// assert_eq!(counter, 525);
 /// # Ok::<(), chaffrail::Refusal>(())
 /// ```
+#[inline]
 pub fn counter_advance_in_place(counter: &mut u32, timing: Timing) -> Result<(), Refusal> {
     let mut bytes = counter.to_le_bytes();
     told(unsafe { raw::chaffrail_counter_advance_in_place(bytes.as_mut_ptr(), bytes.len(), timing) })?;
@@ -404,6 +435,7 @@ pub fn counter_advance_in_place(counter: &mut u32, timing: Timing) -> Result<(),
 /// ```
 /// assert_eq!(chaffrail::counter_state(10, chaffrail::VGA_TIMING), Ok(1));
 /// ```
+#[inline]
 pub fn counter_state(counter: u32, timing: Timing) -> Result<u8, Refusal> {
     told(unsafe { raw::chaffrail_counter_state(counter, timing) }).map(|a| a.value as u8)
 }
@@ -414,6 +446,7 @@ pub fn counter_state(counter: u32, timing: Timing) -> Result<u8, Refusal> {
 /// assert_eq!(chaffrail::counter_row(44, chaffrail::VGA_TIMING, 1), Ok(Some(0)));
 /// assert_eq!(chaffrail::counter_row(524, chaffrail::VGA_TIMING, 1), Ok(None));
 /// ```
+#[inline]
 pub fn counter_row(counter: u32, timing: Timing, offset: u32) -> Result<Option<u32>, Refusal> {
     told(unsafe { raw::chaffrail_counter_row(counter, timing, offset) }).map(|a| (a.value != raw::NO_ROW).then_some(a.value))
 }
