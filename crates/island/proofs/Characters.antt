@@ -1,8 +1,8 @@
 -- The transposition, as two delta swaps; and a word's characters from the transposed pairs and the header's word.
-use mathlib.Core.Path.{_≡_, ap, ap₂, _∙_}
+use mathlib.Core.Path.{_≡_, refl, sym, ap, ap₂, _∙_}
 use mathlib.Core.Bool.{_&&_}
 use mathlib.Core.List.{List, [], _∷_}
-use Prim.Native.Nat.{ℕ, _+_, _*_, _/_, _%_, _^_, _<_}
+use Prim.Native.Nat.{ℕ, _+_, _*_, _/_, _-_, _%_, _^_, _<_}
 use native.Mathlib.Nat.{zero-add}
 use native.Mathlib.Omega.{arith}
 use lib.Bits.{bitOr, or-shifted-r}
@@ -15,11 +15,12 @@ use Rattle.laws.proofs.Finite.{below}
 use Rattle.laws.proofs.Swaps.{Swap, swap, swaps, sources, orderly, swaps-bit}
 use Rattle.laws.proofs.Tables.{made, made-at}
 use Rattle.laws.proofs.Truth.{and-left, and-right}
+use Rattle.laws.proofs.Xor.{on-bit}
 use Rattle.dvi.specs.Lanes.{lanes}
 use Rattle.hdmi.specs.Terc4.{terc4}
 use Rattle.hdmi.specs.Island.{headerBit, subpacketBit, marker, across, dataWord}
 use Rattle.two_lanes.specs.Pairs.{evens, odds}
-use Rattle.island.specs.Words.{transposed, Bytes, Pairs, Header, laneSymbol, pairsOf, wordFrom}
+use Rattle.island.specs.Words.{transposed, Bytes, Subpacket, Pairs, Header, laneSymbol, wordFrom}
 
 -- ---- the transposition
 
@@ -53,18 +54,36 @@ unfolding Bytes
 joined-bytes f v small e s n hs hn =
     ap (bit (8 * s + n)) (e ∙ omega arith) ∙ numeral-bit 8 f small 0 4 s n hs hn ∙ ap (λ (u : ℕ). bit n (f u)) (zero-add s)
 
--- byte i of the four subpackets, transposed
-pub pairs-of : (p : List ℕ) (i v r : ℕ) → Bytes (λ s. getD p (4 + i + 8 * s) 0) v → ((k : ℕ) → k < 32 → bit k r ≡ bit (transposed k) v) → Pairs p i r
-unfolding Pairs Bytes
-pairs-of p i v r bytes t j s o hj hs ho =
-    t (8 * j + (2 * s + o)) (omega arith) ∙ ap (λ (k : ℕ). bit k v) (transposed-pair j s o hs ho) ∙ bytes s (2 * j + o) hs (omega arith)
-    ∙ ap (λ (m : ℕ). bit (2 * j + o) (getD p m 0)) (omega arith)
+-- the bytes of a packet from `at` on, as bits
+gathered : (p : List ℕ) (at h n : ℕ) → Bytes (λ s. getD p (at + s) 0) h → n < 32 → bit n h ≡ bit (n % 8) (getD p (at + n / 8) 0)
+unfolding Bytes
+gathered p at h n bytes l =
+    let d : n ≡ 8 * (n / 8) + n % 8 = omega arith in
+    ap (λ (j : ℕ). bit j h) d ∙ bytes (n / 8) (n % 8) (omega arith) (omega arith)
 
-pub header-of : (p : List ℕ) (h : ℕ) → Bytes (λ s. getD p (0 + 1 * s) 0) h → Header p h
-unfolding Header headerBit Bytes
-header-of p h bytes k l =
-    let d : k ≡ 8 * (k / 8) + k % 8 = omega arith in
-    ap (λ (j : ℕ). bit j h) d ∙ bytes (k / 8) (k % 8) (omega arith) (omega arith) ∙ ap (λ (m : ℕ). bit (k % 8) (getD p m 0)) (omega arith)
+pub header-of : (p : List ℕ) (h : ℕ) → Bytes (λ s. getD p (0 + s) 0) h → Header p 0 h
+unfolding Header headerBit
+header-of p h bytes k l = gathered p 0 h k bytes (omega arith) ∙ ap₂ (λ (x y : ℕ). bit x (getD p y 0)) (omega arith) (omega arith)
+
+-- eight bytes in two words
+pub subpacket-of : (p : List ℕ) (s low high : ℕ) → low < 2 ^ 32 → Bytes (λ t. getD p (4 + 8 * s + t) 0) low → Bytes (λ t. getD p (8 + 8 * s + t) 0) high
+    → Subpacket p s (low + 4294967296 * high)
+unfolding Subpacket subpacketBit
+subpacket-of p s low high small bl bh n l =
+    on-bit (λ (q : ℕ). n / 32 ≡ q → bit n v ≡ bit (n % 8) (getD p (4 + 8 * s + n / 8) 0)) in-low in-high (n / 32) (omega arith) refl
+  where
+    v : ℕ
+    v = low + 4294967296 * high
+
+    in-low : n / 32 ≡ 0 → bit n v ≡ bit (n % 8) (getD p (4 + 8 * s + n / 8) 0)
+    in-low h = sym (bit-mod n 32 v (omega arith)) ∙ ap (bit n) (omega arith) ∙ gathered p (4 + 8 * s) low n bl (omega arith)
+
+    in-high : n / 32 ≡ 1 → bit n v ≡ bit (n % 8) (getD p (4 + 8 * s + n / 8) 0)
+    in-high h =
+        let m : ℕ = n - 32 in
+        let e : n ≡ 32 + m = omega arith in
+        ap (λ (k : ℕ). bit k v) e ∙ sym (bit-shr m 32 v) ∙ ap (bit m) (omega arith) ∙ gathered p (8 + 8 * s) high m bh (omega arith)
+        ∙ ap₂ (λ (x y : ℕ). bit x (getD p y 0)) (omega arith) (omega arith)
 
 -- lane 0 or-ed in below the two others
 pub or-lanes : (a b c : ℕ) → a < 1024 → bitOr a (lanes 0 b c) ≡ lanes a b c
@@ -79,26 +98,23 @@ zero-at hv zero n e h = ap (λ (l : List ℕ). getD l n 0) e ∙ made-at (laneSy
 
 -- ---- one character
 
-module _ (p : List ℕ) (i j v : ℕ) (hj : j < 4) (pairs : Pairs p i v) where
+module _ (p : List ℕ) (i j v : ℕ) (hi : i < 8) (hj : j < 4) (pairs : Pairs p i j v) where
   abbrev k : ℕ
   k = 4 * i + j
 
-  pair : (s o : ℕ) → s < 4 → o < 2 → bit (2 * s + o) (pairsOf v j) ≡ subpacketBit p s (2 * k + o)
-  unfolding Pairs subpacketBit
+  pair : (s o : ℕ) → s < 4 → o < 2 → bit (2 * s + o) (v % 256) ≡ subpacketBit p s (2 * k + o)
+  unfolding Pairs
   pair s o hs ho =
-      let b : 2 * j + o ≡ (2 * k + o) % 8 = omega arith in
-      let d : i ≡ (2 * k + o) / 8 = omega arith in
-      bit-mod (2 * s + o) 8 (v / 2 ^ (8 * j)) (omega arith) ∙ bit-shr (2 * s + o) (8 * j) v ∙ pairs j s o hj hs ho
-      ∙ ap₂ (λ (x y : ℕ). bit x (getD p (4 + 8 * s + y) 0)) b d
+      bit-mod (2 * s + o) 8 v (omega arith) ∙ ap (λ (m : ℕ). bit m v) (omega arith) ∙ pairs 0 s o (omega arith) hs ho ∙ ap (subpacketBit p s) (omega arith)
 
-  pub word-of : (hv h : ℕ) → k < 32 → Header p h → wordFrom hv (h / 2 ^ (4 * i)) v i j ≡ dataWord hv p k
+  pub word-of : (hv h : ℕ) → Header p i h → wordFrom hv h v i j ≡ dataWord hv p k
   unfolding wordFrom dataWord Header
-  word-of hv h l head =
-      let x : ℕ = pairsOf v j in
+  word-of hv h head =
+      let x : ℕ = v % 256 in
       let one : evens x ≡ across p (2 * k) =
       numeral-agree 1 (λ s. bit (2 * s) x) (λ s. subpacketBit p s (2 * k)) 0 4
       (λ s a b. ap (λ (u : ℕ). bit u x) (omega arith) ∙ pair s 0 b (omega arith) ∙ ap (subpacketBit p s) (omega arith)) in
       let two : odds x ≡ across p (2 * k + 1) =
       numeral-agree 1 (λ s. bit (2 * s + 1) x) (λ s. subpacketBit p s (2 * k + 1)) 0 4 (λ s a b. pair s 1 b (omega arith)) in
-      ap₂ (λ (a b : ℕ). lanes (terc4 (hv + 4 * a + marker k)) (terc4 b) (terc4 (odds x))) (bit-shr j (4 * i) h ∙ head k l) one
+      ap₂ (λ (a b : ℕ). lanes (terc4 (hv + 4 * a + marker k)) (terc4 b) (terc4 (odds x))) (head j (omega arith)) one
       ∙ ap (λ (b : ℕ). lanes (terc4 (hv + 4 * headerBit p k + marker k)) (terc4 (across p (2 * k))) (terc4 b)) two

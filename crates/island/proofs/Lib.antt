@@ -2,3 +2,4 @@ pub mod Answers
 pub mod Characters
 pub mod Edges
 pub mod Filling
+pub mod Streams

@@ -1,7 +1,7 @@
 -- `island::gather` meets its contract.
 use mathlib.Core.Path.{_≡_, ap}
 use mathlib.Core.List.{List}
-use Prim.Native.Nat.{ℕ, _+_, _*_}
+use Prim.Native.Nat.{ℕ, _+_}
 use native.Mathlib.Omega.{arith}
 use lib.ListN.{getD}
 use Rattle.island.proofs.Characters.{joined-bytes}
@@ -18,17 +18,11 @@ add-join c = search needs
 shared-slice-read-join-2 : tie.Need-shared-slice-read-join-2
 shared-slice-read-join-2 c = search needs
 
-mul-join : tie.Need-mul-join
-mul-join c = search needs
-
 add-join-2 : tie.Need-add-join-2
 add-join-2 c = search needs
 
 shared-slice-read-join-3 : tie.Need-shared-slice-read-join-3
 shared-slice-read-join-3 c = search needs
-
-mul-join-2 : tie.Need-mul-join-2
-mul-join-2 c = search needs
 
 add-join-3 : tie.Need-add-join-3
 add-join-3 c = search needs
@@ -44,11 +38,9 @@ returns c =
     let start = c .before .before .before .before .before .before in
     let p : List ℕ = start .args .packet .now in
     let at : ℕ = start .args .at in
-    let step : ℕ = start .args .step in
-    let f : ℕ → ℕ = λ s. getD p (at + step * s) 0 in
-    let place : (m n : ℕ) → m ≡ n → getD p m 0 ≡ getD p n 0 = λ m n e. ap (λ (k : ℕ). getD p k 0) e in
-    joined-bytes f (c .join .result) (λ s. c .before .shared-slice-known5 .given (at + step * s) .fits)
-    (omega (arith, c .join .ensures, place at (at + step * 0) (omega arith), place (at + step) (at + step * 1) (omega arith), place (at + 2 * step) (at + step * 2) (omega arith), place (at + 3 * step) (at + step * 3) (omega arith)))
+    let f : ℕ → ℕ = λ s. getD p (at + s) 0 in
+    let first : getD p at 0 ≡ f 0 = ap (λ (k : ℕ). getD p k 0) (omega arith) in
+    joined-bytes f (c .join .result) (λ s. c .before .shared-slice-known5 .given (at + s) .fits) (omega (arith, c .join .ensures, first))
 
 pub gather-spec : {M : Type 1} → statement M
 gather-spec =
@@ -57,10 +49,8 @@ gather-spec =
     shared-slice-read-join
     add-join
     shared-slice-read-join-2
-    mul-join
     add-join-2
     shared-slice-read-join-3
-    mul-join-2
     add-join-3
     shared-slice-read-join-4
     join-requires

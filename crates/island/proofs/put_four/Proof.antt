@@ -7,35 +7,30 @@ use borrow.Author.Needs.{needs}
 use lib.ListN.{length, length-set}
 use Rattle.laws.specs.Front.{Front}
 use Rattle.hdmi.specs.Island.{island}
+use Rattle.island.specs.Words.{Rows}
 use Rattle.island.proofs.Characters.{word-of}
 use Rattle.island.proofs.Filling.{put-data}
 use Rattle.island.proofs.put_four.Statement.{statement}
 use Rattle.island.proofs.put_four.Tie as tie
 
 abbrev Inv-loop : tie.InvT-loop
-Inv-loop hv zero header packet i words₀ v bits j₀ words j = (j ≤ 4) × (length words ≡ 36) × Front (island hv packet) (2 + 4 * i + j) words
+Inv-loop hv zero packet header rows i words₀ j₀ words j = (j ≤ 4) × (length words ≡ 36) × Front (island hv packet) (2 + 4 * i + j) words
 
 abbrev μ-loop : tie.MeasureT-loop
-μ-loop hv zero header packet i words₀ v bits j₀ words j = 4 - j
-
-pairs-requires : tie.Need-pairs-requires Inv-loop μ-loop
-pairs-requires c κs = search needs
-
-mul-bits : tie.Need-mul-bits Inv-loop μ-loop
-mul-bits c = search needs
-
-cast-bits : tie.Need-cast-bits Inv-loop μ-loop
-cast-bits c = search needs
-
-shr-bits : tie.Need-shr-bits Inv-loop μ-loop
-shr-bits c = search needs
+μ-loop hv zero packet header rows i words₀ j₀ words j = 4 - j
 
 loop-holds : tie.Need-loop-holds Inv-loop μ-loop
 loop-holds c =
-    let start = c .before .before .before in
+    let start = c .before .before in
     let i : ℕ = start .args .i in
     let at : 2 + 4 * i ≡ 2 + 4 * i + 0 = omega arith in
     (omega arith, omega arith, subst (λ (n : ℕ). Front (island (start .args .hv) (start .args .packet .now)) n (start .args .words .now)) at (start .pre .6))
+
+mul-data-word : tie.Need-mul-data-word Inv-loop μ-loop
+mul-data-word c = search needs
+
+element-copy-out-data-word : tie.Need-element-copy-out-data-word Inv-loop μ-loop
+element-copy-out-data-word c = search needs
 
 data-word-requires : tie.Need-data-word-requires Inv-loop μ-loop
 data-word-requires c κs = search needs
@@ -62,13 +57,14 @@ loop-less : tie.Need-loop-less Inv-loop μ-loop
 loop-less c = search needs
 
 loop-again : tie.Need-loop-again Inv-loop μ-loop
+unfolding Rows
 loop-again c =
     let start = c .before .before .before .before .before .before in
     let hv : ℕ = start .args .hv in
     let p : List ℕ = start .args .packet .now in
     let i : ℕ = start .args .i in
-    let l = c .before .before .loop in
-    let is = word-of p i (l .j) _ (omega arith) (c .before .before .before .pairs .ensures) hv (start .args .header) (omega arith) (start .pre .3) in
+    let l = c .before .before .before .loop in
+    let is = word-of p i (l .j) _ (omega arith) (omega arith) (start .pre .3 (l .j) (omega arith)) hv (start .args .header) (start .pre .2) in
     (omega arith, simp length-set (omega arith), put-data hv p (2 + 4 * i + l .j) (2 + 4 * i + (l .j + 1)) (4 * i + l .j) _ _ (omega arith) (omega arith) (omega arith) (l .inv .2) (c .data-word .ensures ∙ is))
 
 same-length : tie.Need-same-length Inv-loop μ-loop
@@ -76,7 +72,7 @@ same-length c = search needs
 
 returns : tie.Need-returns Inv-loop μ-loop
 returns c =
-    let start = c .before .before .before .before .before in
+    let start = c .before .before .before .before in
     let i : ℕ = start .args .i in
     let l = c .before .loop in
     let at : 2 + 4 * i + l .j ≡ 2 + 4 * (i + 1) = omega arith in
@@ -88,11 +84,9 @@ put-four-spec =
     (tie.spec
     Inv-loop
     μ-loop
-    pairs-requires
-    mul-bits
-    cast-bits
-    shr-bits
     loop-holds
+    mul-data-word
+    element-copy-out-data-word
     data-word-requires
     mul-words
     add-words
