@@ -20,12 +20,12 @@ pub fn next(state: DviTimingState, timing: DviTiming) -> Stepped
 {
     let a = state.advance(timing);
     match a {
-        Advanced::Next(s) => Stepped {
-            state: s,
+        Advanced::Next(after) => Stepped {
+            state: after,
             verdict: Verdict::Fine,
         },
-        Advanced::Refused(r, s) => Stepped {
-            state: s,
+        Advanced::Refused(r, back) => Stepped {
+            state: back,
             verdict: Verdict::Refused(r),
         },
     }
