@@ -135,17 +135,17 @@ chaffrail_answer chaffrail_read_island(const uint8_t *words, size_t words_len, u
 /* A display mode. Polarities are 0 (negative) or 1 (positive), the bit clock is in kilohertz. Ranges: front porch 9..4095, sync 37..4095, back
  * porch 11..4095, active pixels 9..4095, each vertical number 1..4095. */
 typedef struct chaffrail_timing {
-    uint8_t h_sync_polarity;
     uint32_t h_front_porch;
     uint32_t h_sync_width;
     uint32_t h_back_porch;
     uint32_t h_active_pixels;
-    uint8_t v_sync_polarity;
     uint32_t v_front_porch;
     uint32_t v_sync_width;
     uint32_t v_back_porch;
     uint32_t v_active_lines;
     uint32_t bit_clk;
+    uint8_t h_sync_polarity;
+    uint8_t v_sync_polarity;
 } chaffrail_timing;
 
 /* 640 by 480 at 60 Hz. */

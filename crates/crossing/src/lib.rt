@@ -51,37 +51,38 @@ pub fn answer_told(v: Verdict) -> Answer
     }
 }
 
-// A display mode, as it crosses. Polarities are 0 (negative) or 1 (positive), the bit clock is in kilohertz.
+// A display mode, as it crosses. Polarities are 0 (negative) or 1 (positive), the bit clock is in kilohertz. The eight numbers with a range lie together
+// from the start on: a caller lays the argument down in pieces of 16 bytes, and the ranges are asked of the same pieces, so no load waits for two stores.
 #[repr(C)]
 pub struct Timing {
-    pub h_sync_polarity: u8,
     pub h_front_porch: u32,
     pub h_sync_width: u32,
     pub h_back_porch: u32,
     pub h_active_pixels: u32,
-    pub v_sync_polarity: u8,
     pub v_front_porch: u32,
     pub v_sync_width: u32,
     pub v_back_porch: u32,
     pub v_active_lines: u32,
     pub bit_clk: u32,
+    pub h_sync_polarity: u8,
+    pub v_sync_polarity: u8,
 }
 
 pub fn timing_of(t: Timing) -> DviTiming
     ensures { λ r. ⌜ r ≡ timingOf t ⌝ }
 {
     DviTiming {
-        h_sync_polarity: t.h_sync_polarity,
         h_front_porch: t.h_front_porch,
         h_sync_width: t.h_sync_width,
         h_back_porch: t.h_back_porch,
         h_active_pixels: t.h_active_pixels,
-        v_sync_polarity: t.v_sync_polarity,
         v_front_porch: t.v_front_porch,
         v_sync_width: t.v_sync_width,
         v_back_porch: t.v_back_porch,
         v_active_lines: t.v_active_lines,
         bit_clk: t.bit_clk,
+        h_sync_polarity: t.h_sync_polarity,
+        v_sync_polarity: t.v_sync_polarity,
     }
 }
 
@@ -89,17 +90,17 @@ pub fn timing_crossing(mode: DviTiming) -> Timing
     ensures { λ r. ⌜ r ≡ crossing mode ⌝ }
 {
     Timing {
-        h_sync_polarity: mode.h_sync_polarity,
         h_front_porch: mode.h_front_porch,
         h_sync_width: mode.h_sync_width,
         h_back_porch: mode.h_back_porch,
         h_active_pixels: mode.h_active_pixels,
-        v_sync_polarity: mode.v_sync_polarity,
         v_front_porch: mode.v_front_porch,
         v_sync_width: mode.v_sync_width,
         v_back_porch: mode.v_back_porch,
         v_active_lines: mode.v_active_lines,
         bit_clk: mode.bit_clk,
+        h_sync_polarity: mode.h_sync_polarity,
+        v_sync_polarity: mode.v_sync_polarity,
     }
 }
 

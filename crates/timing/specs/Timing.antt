@@ -36,15 +36,15 @@ total t = inactive t + t .«v_active_lines»
 -- 640 by 480 at 60 Hz
 abbrev pub vga : DviTiming
 vga = record {
-  «h_sync_polarity» = 0;
   «h_front_porch» = 16;
   «h_sync_width» = 96;
   «h_back_porch» = 48;
   «h_active_pixels» = 640;
-  «v_sync_polarity» = 0;
   «v_front_porch» = 10;
   «v_sync_width» = 2;
   «v_back_porch» = 33;
   «v_active_lines» = 480;
   «bit_clk» = 252000;
+  «h_sync_polarity» = 0;
+  «v_sync_polarity» = 0;
 }

@@ -16,31 +16,31 @@ ghost use Rattle.timing.specs.LineState.{stateNumber};
 
 // A display mode. Polarities are 0 (negative) or 1 (positive), the bit clock is in kilohertz.
 pub struct DviTiming {
-    pub h_sync_polarity: u8,
     pub h_front_porch: u32,
     pub h_sync_width: u32,
     pub h_back_porch: u32,
     pub h_active_pixels: u32,
-    pub v_sync_polarity: u8,
     pub v_front_porch: u32,
     pub v_sync_width: u32,
     pub v_back_porch: u32,
     pub v_active_lines: u32,
     pub bit_clk: u32,
+    pub h_sync_polarity: u8,
+    pub v_sync_polarity: u8,
 }
 
 pub const VGA_TIMING: DviTiming = DviTiming {
-    h_sync_polarity: 0,
     h_front_porch: 16,
     h_sync_width: 96,
     h_back_porch: 48,
     h_active_pixels: 640,
-    v_sync_polarity: 0,
     v_front_porch: 10,
     v_sync_width: 2,
     v_back_porch: 33,
     v_active_lines: 480,
     bit_clk: 252000,
+    h_sync_polarity: 0,
+    v_sync_polarity: 0,
 };
 
 // The const, tied to its definition.

@@ -14,17 +14,17 @@ pub struct Answer {
 #[repr(C)]
 #[derive(Clone, Copy, Debug, PartialEq, Eq)]
 pub struct Timing {
-    pub h_sync_polarity: u8,
     pub h_front_porch: u32,
     pub h_sync_width: u32,
     pub h_back_porch: u32,
     pub h_active_pixels: u32,
-    pub v_sync_polarity: u8,
     pub v_front_porch: u32,
     pub v_sync_width: u32,
     pub v_back_porch: u32,
     pub v_active_lines: u32,
     pub bit_clk: u32,
+    pub h_sync_polarity: u8,
+    pub v_sync_polarity: u8,
 }
 
 extern "C" {

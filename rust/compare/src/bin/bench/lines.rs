@@ -1,5 +1,5 @@
 //! Timing, lines and the counter, one call for each input. Both sides write words into the same room.
-use crate::turns::calls;
+use crate::turns::{calls, fills};
 use chaffrail::Timing;
 use compare::dvi::data_island::DataPacket;
 use compare::dvi::timing::{DviTiming, DviTimingState};
@@ -22,53 +22,46 @@ impl Line<'_> {
     }
 }
 
-/// The words that a side leaves in a line of zeros.
-fn left<const N: usize>(fill: impl FnOnce(&mut [u32; N])) -> [u32; N] {
-    let mut line = [0; N];
-    fill(&mut line);
-    line
-}
-
 fn line_words(lines: &[Line]) {
-    calls(
+    fills(
         "sync pulse",
         "line",
         lines,
         [0; 15],
-        |l| l.theirs.0.make_sync_pulse(l.v_sync()),
-        |l| left(|w| chaffrail::make_sync_pulse(l.timing, l.v_sync(), as_bytes(w)).unwrap()),
+        |l, w| *w = l.theirs.0.make_sync_pulse(l.v_sync()),
+        |l, w| chaffrail::make_sync_pulse(l.timing, l.v_sync(), as_bytes(w)).unwrap(),
     );
-    calls(
+    fills(
         "sync-only line",
         "line",
         lines,
         [0; 11],
-        |l| l.theirs.0.make_sync_line_only(l.v_sync()),
-        |l| left(|w| chaffrail::make_sync_line_only(l.timing, l.v_sync(), as_bytes(w)).unwrap()),
+        |l, w| *w = l.theirs.0.make_sync_line_only(l.v_sync()),
+        |l, w| chaffrail::make_sync_line_only(l.timing, l.v_sync(), as_bytes(w)).unwrap(),
     );
-    calls(
+    fills(
         "island line begun",
         "line",
         lines,
         [0; 56],
-        |l| left(|w| l.theirs.0.init_data_island(w)),
-        |l| left(|w| chaffrail::init_data_island(l.timing, as_bytes(w)).unwrap()),
+        |l, w| l.theirs.0.init_data_island(w),
+        |l, w| chaffrail::init_data_island(l.timing, as_bytes(w)).unwrap(),
     );
-    calls(
+    fills(
         "island line with a packet",
         "line",
         lines,
         [0; 56],
-        |l| left(|w| l.theirs.0.encode_data_island(w, original_state(l.state), &l.theirs.1)),
-        |l| left(|w| chaffrail::encode_data_island(l.timing, as_bytes(w), l.state, &l.packet).unwrap()),
+        |l, w| l.theirs.0.encode_data_island(w, original_state(l.state), &l.theirs.1),
+        |l, w| chaffrail::encode_data_island(l.timing, as_bytes(w), l.state, &l.packet).unwrap(),
     );
-    calls(
+    fills(
         "island line without one",
         "line",
         lines,
         [0; 56],
-        |l| left(|w| l.theirs.0.encode_data_island_empty(w, original_state(l.state))),
-        |l| left(|w| chaffrail::encode_data_island_empty(l.timing, as_bytes(w), l.state).unwrap()),
+        |l, w| l.theirs.0.encode_data_island_empty(w, original_state(l.state)),
+        |l, w| chaffrail::encode_data_island_empty(l.timing, as_bytes(w), l.state).unwrap(),
     );
 }
 

@@ -1,7 +1,7 @@
 //! Symbols, parity, packets and islands, one call for each input.
-use crate::turns::{best, calls, read, row, PIECE};
+use crate::turns::{best, calls, fills, read, row, PIECE};
 use chaffrail::Avi;
-use compare::dvi::data_island::parity;
+use compare::dvi::data_island::{parity, DataPacket};
 use compare::dvi::tmds::TmdsPair;
 use compare::sides::{as_bytes, built, flat, original_avi, packet_of};
 use compare::{original_encode, Random};
@@ -87,18 +87,17 @@ pub fn packets(random: &mut Random) {
 }
 
 pub fn islands(random: &mut Random) {
-    let packets: Vec<(u8, [u8; 36])> = some(1 << 15, || (random.below(4) as u8, std::array::from_fn(|_| random.below(256) as u8)));
-    let theirs = |(hv, p): &(u8, [u8; 36])| {
-        let mut words = [0u32; 36];
-        packet_of(p).encode(*hv, &mut words);
-        words
-    };
-    let other = |(hv, p): &(u8, [u8; 36])| {
-        let mut words = [0u32; 36];
-        chaffrail::encode_island(*hv, p, as_bytes(&mut words)).unwrap();
-        words
-    };
-    calls("island", "island", &packets, [0; 36], theirs, other);
+    let packets: Vec<[u8; 36]> = some(1 << 15, || std::array::from_fn(|_| random.below(256) as u8));
+    let theirs: Vec<DataPacket> = packets.iter().map(packet_of).collect();
+    let islands: Vec<(u8, &[u8; 36], &DataPacket)> = packets.iter().zip(&theirs).map(|(p, q)| (random.below(4) as u8, p, q)).collect();
+    fills(
+        "island",
+        "island",
+        &islands,
+        [0u32; 36],
+        |(hv, _, packet), words| packet.encode(*hv, words),
+        |(hv, packet, _), words| chaffrail::encode_island(*hv, *packet, as_bytes(words)).unwrap(),
+    );
     reading(random);
 }
 

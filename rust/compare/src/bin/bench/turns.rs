@@ -4,8 +4,9 @@ use std::time::Instant;
 
 const ROUNDS: usize = 9;
 
-/// Elements of a piece.
+/// Elements of a piece, and the bytes of a piece's answers, which stay in the nearest cache.
 pub const PIECE: usize = 4096;
+const NEAR: usize = 1 << 14;
 
 /// Nanoseconds for each unit. The work is cut into short pieces, the two sides take turns at each, and of every piece the best of several rounds
 /// counts: so a machine with other work to do, which interrupts the longer side more often, does not flatter the shorter one.
@@ -37,28 +38,26 @@ pub fn row(name: &str, unit: &str, (theirs, ours): (f64, f64)) {
     println!("| {:.1} | {name} | {theirs:.2} | {ours:.2} | ns {article} {unit} |", theirs / ours);
 }
 
-/// One call for each input.
+/// One call for each input, its answer stored.
 pub fn calls<I: Copy, O: PartialEq + Clone>(name: &str, unit: &str, inputs: &[I], empty: O, one: impl Fn(&I) -> O, other: impl Fn(&I) -> O) {
+    fills(name, unit, inputs, empty, |i, o| *o = one(i), |i, o| *o = other(i));
+}
+
+/// One call for each input, into room that is lent to it: the answer is written where it stays, as firmware has it.
+pub fn fills<I: Copy, O: PartialEq + Clone>(name: &str, unit: &str, inputs: &[I], empty: O, one: impl Fn(&I, &mut O), other: impl Fn(&I, &mut O)) {
     let (mut theirs, mut ours) = (vec![empty.clone(); inputs.len()], vec![empty; inputs.len()]);
-    let at = |k: usize| PIECE * k..(PIECE * (k + 1)).min(inputs.len());
+    let piece = (NEAR / size_of::<O>()).min(PIECE);
+    let at = |k: usize| piece * k..(piece * (k + 1)).min(inputs.len());
     let times = best(
         inputs.len(),
-        inputs.len().div_ceil(PIECE),
+        inputs.len().div_ceil(piece),
         |k| {
             inputs[at(k)].iter().for_each(|&i| {
                 black_box(i);
             })
         },
-        |k| {
-            for (o, i) in theirs[at(k)].iter_mut().zip(&inputs[at(k)]) {
-                *o = one(i);
-            }
-        },
-        |k| {
-            for (o, i) in ours[at(k)].iter_mut().zip(&inputs[at(k)]) {
-                *o = other(i);
-            }
-        },
+        |k| inputs[at(k)].iter().zip(&mut theirs[at(k)]).for_each(|(i, o)| one(i, o)),
+        |k| inputs[at(k)].iter().zip(&mut ours[at(k)]).for_each(|(i, o)| other(i, o)),
     );
     assert!(theirs == ours, "{name}: the outputs differ");
     row(name, unit, times);
