@@ -68,60 +68,70 @@ fours-high x y n w e =
     let f : (4 + n) / 4 % 2 ≡ 1 = omega arith in
     high-bit x y 4 _ _ n w (omega (arith, low-fours (4 + n) w)) (omega (arith, high-fours (4 + n) w))
 
--- ---- the subpackets side by side
+-- ---- four words side by side
 
-module _ (p : List ℕ) (j : ℕ) (hj : j < 4) where
+module _ (j : ℕ) where
   abbrev by : ℕ
   by = 2 * (j % 2)
 
   abbrev on : ℕ
-  on = 4 * (j / 2)
+  on = 4 * (j / 2 % 2)
 
-  -- a bit of a subpacket moved down for character j
-  moved : (s x m : ℕ) → Subpacket p s x → by + m < 64 → bit m (x / 2 ^ by) ≡ subpacketBit p s (by + m)
-  unfolding Subpacket
-  moved s x m sub w = bit-shr m by x ∙ sub (by + m) w
-
-  module _ (r o : ℕ) (hr : r < 8) (ho : o < 2) where
+  module _ (i o : ℕ) (hi : i < 8) (ho : o < 2) where
     -- the lower of the two places in a merge of pairs, and the higher
-    lower : (s x y : ℕ) → Subpacket p s x → bit (on + (8 * r + o)) (twos (x / 2 ^ by) (y / 2 ^ by)) ≡ subpacketBit p s (2 * (4 * (0 + r) + j) + o)
-    lower s x y sub =
-        twos-low (x / 2 ^ by) (y / 2 ^ by) (on + (8 * r + o)) (omega arith) (omega arith) ∙ moved s x (on + (8 * r + o)) sub (omega arith)
-        ∙ ap (subpacketBit p s) (omega arith)
+    lower : (x y : ℕ) → bit (on + (8 * i + o)) (twos (x / 2 ^ by) (y / 2 ^ by)) ≡ bit (8 * i + (2 * (j % 4) + o)) x
+    lower x y =
+        twos-low (x / 2 ^ by) (y / 2 ^ by) (on + (8 * i + o)) (omega arith) (omega arith) ∙ bit-shr (on + (8 * i + o)) by x
+        ∙ ap (λ (m : ℕ). bit m x) (omega arith)
 
-    higher : (s x y : ℕ) → Subpacket p s y → bit (on + (8 * r + (2 + o))) (twos (x / 2 ^ by) (y / 2 ^ by)) ≡ subpacketBit p s (2 * (4 * (0 + r) + j) + o)
-    higher s x y sub =
+    higher : (x y : ℕ) → bit (on + (8 * i + (2 + o))) (twos (x / 2 ^ by) (y / 2 ^ by)) ≡ bit (8 * i + (2 * (j % 4) + o)) y
+    higher x y =
         ap (λ (m : ℕ). bit m (twos (x / 2 ^ by) (y / 2 ^ by))) (omega arith)
-        ∙ twos-high (x / 2 ^ by) (y / 2 ^ by) (on + (8 * r + o)) (omega arith) (omega arith) ∙ moved s y (on + (8 * r + o)) sub (omega arith)
-        ∙ ap (subpacketBit p s) (omega arith)
+        ∙ twos-high (x / 2 ^ by) (y / 2 ^ by) (on + (8 * i + o)) (omega arith) (omega arith) ∙ bit-shr (on + (8 * i + o)) by y
+        ∙ ap (λ (m : ℕ). bit m y) (omega arith)
 
-  pub side-by-side : (x0 x1 x2 x3 : ℕ) → Subpacket p 0 x0 → Subpacket p 1 x1 → Subpacket p 2 x2 → Subpacket p 3 x3
-      → Pairs p 0 j (fours (twos (x0 / 2 ^ by) (x1 / 2 ^ by) / 2 ^ on) (twos (x2 / 2 ^ by) (x3 / 2 ^ by) / 2 ^ on))
-  unfolding Pairs
-  side-by-side x0 x1 x2 x3 s0 s1 s2 s3 r s o hr hs ho = place s hs
-    where
-      one : ℕ
-      one = twos (x0 / 2 ^ by) (x1 / 2 ^ by)
+  module _ (x0 x1 x2 x3 : ℕ) where
+    abbrev one : ℕ
+    one = twos (x0 / 2 ^ by) (x1 / 2 ^ by)
 
-      two : ℕ
-      two = twos (x2 / 2 ^ by) (x3 / 2 ^ by)
+    abbrev two : ℕ
+    two = twos (x2 / 2 ^ by) (x3 / 2 ^ by)
 
-      place : (s : ℕ) → s < 4 → bit (8 * r + (2 * s + o)) (fours (one / 2 ^ on) (two / 2 ^ on)) ≡ subpacketBit p s (2 * (4 * (0 + r) + j) + o)
-      place zero h =
-          ap (λ (m : ℕ). bit m (fours (one / 2 ^ on) (two / 2 ^ on))) (omega arith)
-          ∙ fours-low (one / 2 ^ on) (two / 2 ^ on) (8 * r + o) (omega arith) (omega arith) ∙ bit-shr (8 * r + o) on one ∙ lower r o (omega arith) ho 0 x0 x1 s0
-      place (suc zero) h =
-          ap (λ (m : ℕ). bit m (fours (one / 2 ^ on) (two / 2 ^ on))) (omega arith)
-          ∙ fours-low (one / 2 ^ on) (two / 2 ^ on) (8 * r + (2 + o)) (omega arith) (omega arith) ∙ bit-shr (8 * r + (2 + o)) on one
-          ∙ higher r o (omega arith) ho 1 x0 x1 s1
-      place (suc (suc zero)) h =
-          ap (λ (m : ℕ). bit m (fours (one / 2 ^ on) (two / 2 ^ on))) (omega arith)
-          ∙ fours-high (one / 2 ^ on) (two / 2 ^ on) (8 * r + o) (omega arith) (omega arith) ∙ bit-shr (8 * r + o) on two ∙ lower r o (omega arith) ho 2 x2 x3 s2
-      place (suc (suc (suc zero))) h =
-          ap (λ (m : ℕ). bit m (fours (one / 2 ^ on) (two / 2 ^ on))) (omega arith)
-          ∙ fours-high (one / 2 ^ on) (two / 2 ^ on) (8 * r + (2 + o)) (omega arith) (omega arith) ∙ bit-shr (8 * r + (2 + o)) on two
-          ∙ higher r o (omega arith) ho 3 x2 x3 s3
-      place (suc (suc (suc (suc s)))) h = absurd (omega arith)
+    pub side-by-side : (i s o : ℕ) → i < 8 → s < 4 → o < 2
+        → bit (8 * i + (2 * s + o)) (fours (one / 2 ^ on) (two / 2 ^ on)) ≡ bit (8 * i + (2 * (j % 4) + o)) (getD (x0 ∷ x1 ∷ x2 ∷ x3 ∷ []) s 0)
+    side-by-side i zero o hi hs ho =
+        ap (λ (m : ℕ). bit m (fours (one / 2 ^ on) (two / 2 ^ on))) (omega arith)
+        ∙ fours-low (one / 2 ^ on) (two / 2 ^ on) (8 * i + o) (omega arith) (omega arith) ∙ bit-shr (8 * i + o) on one ∙ lower i o hi ho x0 x1
+    side-by-side i (suc zero) o hi hs ho =
+        ap (λ (m : ℕ). bit m (fours (one / 2 ^ on) (two / 2 ^ on))) (omega arith)
+        ∙ fours-low (one / 2 ^ on) (two / 2 ^ on) (8 * i + (2 + o)) (omega arith) (omega arith) ∙ bit-shr (8 * i + (2 + o)) on one ∙ higher i o hi ho x0 x1
+    side-by-side i (suc (suc zero)) o hi hs ho =
+        ap (λ (m : ℕ). bit m (fours (one / 2 ^ on) (two / 2 ^ on))) (omega arith)
+        ∙ fours-high (one / 2 ^ on) (two / 2 ^ on) (8 * i + o) (omega arith) (omega arith) ∙ bit-shr (8 * i + o) on two ∙ lower i o hi ho x2 x3
+    side-by-side i (suc (suc (suc zero))) o hi hs ho =
+        ap (λ (m : ℕ). bit m (fours (one / 2 ^ on) (two / 2 ^ on))) (omega arith)
+        ∙ fours-high (one / 2 ^ on) (two / 2 ^ on) (8 * i + (2 + o)) (omega arith) (omega arith) ∙ bit-shr (8 * i + (2 + o)) on two ∙ higher i o hi ho x2 x3
+    side-by-side i (suc (suc (suc (suc s)))) o hi hs ho = absurd (omega arith)
+
+-- the subpackets of a packet
+pub subpackets-side-by-side : (p : List ℕ) (j r x0 x1 x2 x3 : ℕ) → j < 4 → Subpacket p 0 x0 → Subpacket p 1 x1 → Subpacket p 2 x2 → Subpacket p 3 x3
+    → ((i s o : ℕ) → i < 8 → s < 4 → o < 2 → bit (8 * i + (2 * s + o)) r ≡ bit (8 * i + (2 * (j % 4) + o)) (getD (x0 ∷ x1 ∷ x2 ∷ x3 ∷ []) s 0))
+    → Pairs p 0 j r
+unfolding Subpacket Pairs
+subpackets-side-by-side p j r x0 x1 x2 x3 hj s0 s1 s2 s3 bits i s o hi hs ho = bits i s o (omega arith) hs ho ∙ of s hs
+  where
+    n : ℕ
+    n = 8 * i + (2 * (j % 4) + o)
+
+    place : n ≡ 2 * (4 * (0 + i) + j) + o
+    place = omega arith
+
+    of : (s : ℕ) → s < 4 → bit n (getD (x0 ∷ x1 ∷ x2 ∷ x3 ∷ []) s 0) ≡ subpacketBit p s (2 * (4 * (0 + i) + j) + o)
+    of zero h = s0 n (omega arith) ∙ ap (subpacketBit p 0) place
+    of (suc zero) h = s1 n (omega arith) ∙ ap (subpacketBit p 1) place
+    of (suc (suc zero)) h = s2 n (omega arith) ∙ ap (subpacketBit p 2) place
+    of (suc (suc (suc zero))) h = s3 n (omega arith) ∙ ap (subpacketBit p 3) place
+    of (suc (suc (suc (suc s)))) h = absurd (omega arith)
 
 -- ---- four characters on
 

@@ -1,7 +1,7 @@
 // The data island's writer: the header goes on lane 0, and the four subpackets, transposed, on lanes 1 and 2.
 ghost use mathlib.Core.Path.{_≡_};
 ghost use mathlib.Core.List.{[], _∷_};
-ghost use Prim.Native.Nat.{ℕ, _+_, _*_, _/_, _^_, _<_};
+ghost use Prim.Native.Nat.{ℕ, _+_, _*_, _/_, _%_, _^_, _<_};
 ghost use lib.ListN.{length, getD};
 ghost use Rattle.laws.specs.Bit.{bit};
 ghost use Rattle.laws.specs.Front.{Front};
@@ -57,33 +57,35 @@ fn merge(x: u64, y: u64, by: u32, low: u64, high: u64) -> u64
     (x & low) | ((y << by) & high)
 }
 
-// The bit pairs of every fourth character from j on, a byte for each: the four subpackets, side by side.
-fn pairs(packet: &[u8], j: u32) -> u64
-    requires { ⌜ (length (now packet) ≡ 36) × (j < 4) ⌝ }
-    ensures { λ r. ⌜ Pairs (now (packet .entry)) 0 j r ⌝ }
+// The bit pair j of every byte of four words, side by side in the byte of the same place. It undoes itself: of the four words that it makes of four, for
+// each j, it makes the four again. The writer brings subpackets together by it, the reader takes them apart.
+pub fn side_by_side(a: u64, b: u64, c: u64, d: u64, j: u32) -> u64
+    ensures { λ r. ⌜ ((i s o : ℕ) → i < 8 → s < 4 → o < 2 → bit (8 * i + (2 * s + o)) r ≡ bit (8 * i + (2 * (j % 4) + o)) (getD (a ∷ b ∷ c ∷ d ∷ []) s 0)) ⌝ }
 {
     let by = 2 * (j % 2);
-    let on = 4 * (j / 2);
-    let one = merge(
-        subpacket(packet, 0) >> by,
-        subpacket(packet, 1) >> by,
-        2,
-        0x3333333333333333,
-        0xcccccccccccccccc,
-    );
-    let two = merge(
-        subpacket(packet, 2) >> by,
-        subpacket(packet, 3) >> by,
-        2,
-        0x3333333333333333,
-        0xcccccccccccccccc,
-    );
+    let on = 4 * (j / 2 % 2);
+    let one = merge(a >> by, b >> by, 2, 0x3333333333333333, 0xcccccccccccccccc);
+    let two = merge(c >> by, d >> by, 2, 0x3333333333333333, 0xcccccccccccccccc);
     merge(
         one >> on,
         two >> on,
         4,
         0x0f0f0f0f0f0f0f0f,
         0xf0f0f0f0f0f0f0f0,
+    )
+}
+
+// The bit pairs of every fourth character from j on, a byte for each: the four subpackets, side by side.
+fn pairs(packet: &[u8], j: u32) -> u64
+    requires { ⌜ (length (now packet) ≡ 36) × (j < 4) ⌝ }
+    ensures { λ r. ⌜ Pairs (now (packet .entry)) 0 j r ⌝ }
+{
+    side_by_side(
+        subpacket(packet, 0),
+        subpacket(packet, 1),
+        subpacket(packet, 2),
+        subpacket(packet, 3),
+        j,
     )
 }
 
