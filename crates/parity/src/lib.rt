@@ -7,7 +7,7 @@ ghost use Prim.Native.Nat.{_-_, _≤_, _<_};
 ghost use lib.ListN.{length, take, drop, set};
 ghost use Rattle.laws.specs.Bytes.{lowFirst};
 ghost use Rattle.refusal.specs.Verdict.{verdict, kept};
-ghost use Rattle.hdmi.specs.Parity.{parity, withParity};
+ghost use Rattle.hdmi.specs.Parity.{parity, withParity, right};
 ghost use Rattle.hdmi.specs.Packet.{sealed};
 ghost use Rattle.parity.specs.Seal.{sealAsks};
 ghost use Rattle.parity.specs.Steps.{EightSteps};
@@ -341,8 +341,28 @@ pub fn subpacket_word(a: u8, b: u8, c: u8, d: u8, e: u8, f: u8, g: u8) -> u64
 fn sealed_word(w: u64) -> u64
     ensures { λ r. ⌜ lowFirst 8 r ≡ withParity (lowFirst 7 w) ⌝ }
 {
-    let data = w % 72057594037927936;
-    data + 72057594037927936 * (word_parity(256 * data) as u64)
+    w % 72057594037927936 + 72057594037927936 * (low_parity(w) as u64)
+}
+
+// Whether the byte on top of a subpacket's word, whose first byte is lowest, is the parity byte of the seven below it.
+pub fn right_subpacket(w: u64) -> bool
+    ensures { λ r. ⌜ r ≡ right 7 (lowFirst 8 w) ⌝ }
+{
+    low_parity(w) == (w >> 56) as u8
+}
+
+// The same of a header's word, of three bytes and their parity byte.
+pub fn right_header(h: u32) -> bool
+    ensures { λ r. ⌜ r ≡ right 3 (lowFirst 4 h) ⌝ }
+{
+    word_parity(1099511627776 * ((h % 16777216) as u64)) == (h >> 24) as u8
+}
+
+// The parity byte of the seven low bytes of w. A zero byte in front of them leaves the register at 0.
+fn low_parity(w: u64) -> u8
+    ensures { λ r. ⌜ r ≡ parity (lowFirst 7 w) ⌝ }
+{
+    word_parity(256 * (w % 72057594037927936))
 }
 
 // Eight bytes as a word, the first in the lowest bits.
