@@ -66,5 +66,5 @@ pub fn read_island(words: &[u8], packet: &mut [u8]) -> Answer
     let Verdict::Fine = v else {
         return answer_told(v);
     };
-    answer_read(island_reader::read(&scratch, packet))
+    answer_read(quick_reader::read(&scratch, packet))
 }
