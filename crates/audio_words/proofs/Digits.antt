@@ -18,7 +18,7 @@ use Rattle.hdmi.specs.Audio.{status}
 use Rattle.hdmi.proofs.Built.{status-both}
 use Rattle.parity.specs.Word.{shl}
 use Rattle.parity.proofs.Sealing.{sealing, sealing-linear, sealing-bytes}
-use Rattle.audio.specs.Frames.{frameOf, digitRule}
+use Rattle.audio_words.specs.Frames.{frameOf, digitRule}
 
 -- ---- one sample, with its lowest bit in bit `at` and the mark of an odd number of ones in bit p
 

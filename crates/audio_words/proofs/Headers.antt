@@ -9,7 +9,7 @@ use Rattle.laws.specs.Bytes.{lowFirst}
 use Rattle.laws.proofs.Finite.{agreed}
 use Rattle.hdmi.specs.Parity.{parity, sent, withParity}
 use Rattle.hdmi.specs.Audio.{blockStart}
-use Rattle.audio.specs.Frames.{headerRule}
+use Rattle.audio_words.specs.Frames.{headerRule}
 
 abbrev bytes : (n c : ℕ) → List ℕ
 bytes n c = withParity (2 ∷ (2 ^ n - 1) ∷ blockStart n c ∷ [])
