@@ -1,4 +1,4 @@
--- `packet::set_audio_clock_regeneration`: each refusal by the test that led to it; else the same block four times.
+-- `clock::set_audio_clock_regeneration`: each refusal by the test that led to it; else the same block four times.
 use mathlib.Core.Path.{refl, _∙_}
 use mathlib.Core.List.{[], _∷_}
 use denote.Ref.{now}
@@ -8,8 +8,8 @@ use lib.ListN.{length}
 use Rattle.hdmi.specs.Clock.{clockBytes}
 use Rattle.hdmi.proofs.Figures.{header-1-0-0}
 use Rattle.blocks.proofs.Laying.{header-with, joined-packet}
-use Rattle.packet.proofs.set_audio_clock_regeneration.Statement.{statement}
-use Rattle.packet.proofs.set_audio_clock_regeneration.Tie as tie
+use Rattle.clock.proofs.set_audio_clock_regeneration.Statement.{statement}
+use Rattle.clock.proofs.set_audio_clock_regeneration.Tie as tie
 
 returns : tie.Need-returns
 returns c = rw (ne-eqb (length (now (c .before .before .args .packet))) 36 (c .if1 .taken)) (refl, refl)
