@@ -12,7 +12,7 @@ ghost use Rattle.laws.specs.Bytes.{lowFirst};
 ghost use Rattle.hdmi.specs.Audio.{twos, frames, frameBytes, blockStart, audioPacket, countAfter};
 ghost use Rattle.laws.specs.Arms.{Arm};
 ghost use Rattle.audio.specs.Asks.{audioAsks};
-ghost use Rattle.audio.specs.Frames.{frameOf, Framed, digitRule, digitKey, headerRule, headerKey};
+ghost use Rattle.audio_words.specs.Frames.{frameOf, Framed, digitRule, digitKey, headerRule, headerKey};
 
 // The count of frames that comes before the next block of 192.
 pub enum FrameCount {

@@ -5,7 +5,8 @@ use Prim.Native.Nat.{ℕ}
 use lib.ListN.{replicate}
 use Rattle.refusal.specs.Verdict.{verdict}
 use Rattle.blocks.specs.Asks.{packetAsks}
-use Rattle.packet.specs.Asks.{clockAsks, aviAsks}
+use Rattle.clock.specs.Asks.{clockAsks}
+use Rattle.packet.specs.Asks.{aviAsks}
 use Rattle.crossing.specs.Crossing.{told}
 
 abbrev bytes : ℕ → List ℕ

@@ -8,7 +8,8 @@ ghost use Rattle.hdmi.specs.Clock.{clockPacket};
 ghost use Rattle.hdmi.specs.Info.{audioInfoFrame, aviInfoFrame};
 ghost use Rattle.hdmi.specs.Parity.{parity};
 ghost use Rattle.blocks.specs.Asks.{packetAsks};
-ghost use Rattle.packet.specs.Asks.{clockAsks, aviAsks};
+ghost use Rattle.clock.specs.Asks.{clockAsks};
+ghost use Rattle.packet.specs.Asks.{aviAsks};
 ghost use Rattle.refusal.specs.Verdict.{verdict, kept};
 ghost use Rattle.crossing.specs.Crossing.{given, told};
 
@@ -21,7 +22,7 @@ pub fn parity(block: &[u8]) -> Answer
 pub fn set_audio_clock_regeneration(packet: &mut [u8], cts: u32, n: u32) -> Answer
     ensures { λ r. ⌜ (r ≡ told (verdict (clockAsks (now (packet .entry)) cts n))) × (now (packet .exit) ≡ kept (verdict (clockAsks (now (packet .entry)) cts n)) (clockPacket cts n) (now (packet .entry))) ⌝ }
 {
-    answer_told(packet::set_audio_clock_regeneration(packet, cts, n))
+    answer_told(clock::set_audio_clock_regeneration(packet, cts, n))
 }
 
 pub fn set_audio_info_frame(packet: &mut [u8], rate: u32) -> Answer

@@ -6,7 +6,8 @@ use Rattle.dvi.specs.Decoder.{isData, byteOf}
 use Rattle.dvi.specs.Symbol.{symbolOf}
 use Rattle.refusal.specs.declared.Refusal.the-variants.{Length, Discrepancy, NotData}
 use Rattle.refusal.specs.Verdict.{verdict}
-use Rattle.row.specs.Wire.{encodeBytesOf, readBytesAsks}
+use Rattle.row.specs.Wire.{encodeBytesOf}
+use Rattle.row_reader.specs.Wire.{readBytesAsks}
 use Rattle.crossing.specs.Crossing.{given, refused, told}
 use Rattle.c_row.specs.Crossing.{rowEnded}
 

@@ -4,7 +4,8 @@ use Prim.Native.Nat.{ℕ}
 use lib.Dec.{T}
 use lib.IntN.{ℤ}
 use Rattle.refusal.specs.Verdict.{rising}
-use Rattle.row.specs.Wire.{encodeBytesAsks, readBytesAsks}
+use Rattle.row.specs.Wire.{encodeBytesAsks}
+use Rattle.row_reader.specs.Wire.{readBytesAsks}
 
 pub encode-row-in-order : (d : ℤ) (row room : ℕ) → T (rising (encodeBytesAsks d row room))
 encode-row-in-order d row room = tt

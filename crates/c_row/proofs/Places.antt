@@ -13,8 +13,9 @@ use Rattle.dvi.specs.Decoder.{isData}
 use Rattle.refusal.specs.declared.Refusal.the-variants.{Length, NotData}
 use Rattle.refusal.specs.declared.Verdict.the-variants.{Fine}
 use Rattle.refusal.specs.Verdict.{unless, verdict, verdictPlace}
-use Rattle.row.specs.Answer.{lengthsFit, firstBad}
-use Rattle.row.specs.Wire.{symbolsIn, readBytesAsks}
+use Rattle.row.specs.Answer.{lengthsFit}
+use Rattle.row_reader.specs.Answer.{firstBad}
+use Rattle.row_reader.specs.Wire.{symbolsIn, readBytesAsks}
 
 asked : (even fits known : Bool) (n : ℕ) → (T fits → n ≤ 4096) → verdictPlace (unless even Length (unless fits Length (unless known (NotData n) Fine))) ≤ 4096
 asked true true true n h = omega arith

@@ -7,7 +7,8 @@ use row::RowEncoded;
 ghost use mathlib.Core.Path.{_≡_};
 ghost use lib.ListN.{length};
 ghost use Rattle.refusal.specs.Verdict.{verdict};
-ghost use Rattle.row.specs.Wire.{encodeBytesOf, encodeBytesOut, readBytesAsks, readBytesOut};
+ghost use Rattle.row.specs.Wire.{encodeBytesOf, encodeBytesOut};
+ghost use Rattle.row_reader.specs.Wire.{readBytesAsks, readBytesOut};
 ghost use Rattle.crossing.specs.Crossing.{told};
 ghost use Rattle.c_row.specs.Crossing.{rowEnded};
 
@@ -26,5 +27,5 @@ pub fn read_row(symbols: &[u8], bytes: &mut [u8]) -> Answer
     ensures answer { λ r. ⌜ r ≡ told (verdict (readBytesAsks (now (symbols .entry)) (length (now (bytes .entry))))) ⌝ }
     ensures bytes { λ _. ⌜ now (bytes .exit) ≡ readBytesOut (now (symbols .entry)) (now (bytes .entry)) ⌝ }
 {
-    answer_told(row::read_row_bytes(symbols, bytes))
+    answer_told(row_reader::read_row_bytes(symbols, bytes))
 }

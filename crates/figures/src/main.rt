@@ -116,12 +116,12 @@ fn packet_figures() {
     let mut packet = [0xaau8; 36];
     show_verdict(
         b"CTS 1048575",
-        packet::set_audio_clock_regeneration(&mut packet, 1048575, 6144),
+        clock::set_audio_clock_regeneration(&mut packet, 1048575, 6144),
     );
     show_byte(b"the clock packet's header parity", packet[3]);
     show_verdict(
         b"CTS 1048576, refused with",
-        packet::set_audio_clock_regeneration(&mut packet, 1048576, 6144),
+        clock::set_audio_clock_regeneration(&mut packet, 1048576, 6144),
     );
     show_verdict(
         b"audio info at 48000",

@@ -1,9 +1,8 @@
--- What each builder asks of its arguments, in the order of the refusals.
+-- What the AVI builder asks of its numbers, in the order of the refusals.
 use mathlib.Core.Bool.{Bool, true, _&&_}
 use mathlib.Core.List.{List, [], _∷_, _++_}
-use Prim.Native.Nat.{ℕ, _^_}
-use lib.Dec.{ltb}
-use Rattle.refusal.specs.declared.Refusal.the-variants.{Unlisted, ClockValue}
+use Prim.Native.Nat.{ℕ}
+use Rattle.refusal.specs.declared.Refusal.the-variants.{Unlisted}
 use Rattle.refusal.specs.Verdict.{Ask, ask}
 use Rattle.blocks.specs.Asks.{packetAsks}
 use Rattle.fields.specs.Numbers.{oneOf}
@@ -14,10 +13,6 @@ use Rattle.fields.specs.PictureAspectRatio.{pictureNumbers}
 use Rattle.fields.specs.ActiveFormatAspectRatio.{activeNumbers}
 use Rattle.fields.specs.QuantizationRange.{quantizationNumbers}
 use Rattle.fields.specs.VideoCode.{codeNumbers}
-
--- CTS and N have 20 bits
-abbrev pub clockAsks : List ℕ → ℕ → ℕ → List Ask
-clockAsks p cts n = packetAsks p ++ (ask (ltb cts (2 ^ 20)) ClockValue ∷ ask (ltb n (2 ^ 20)) ClockValue ∷ [])
 
 abbrev pub every : List Bool → Bool
 every [] = true

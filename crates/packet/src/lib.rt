@@ -1,4 +1,4 @@
-// The packet builders of data_island.rs for the clock and the info frames. Each fixes all 36 bytes, whatever the packet held.
+// The packet builders of data_island.rs for the info frames. Each fixes all 36 bytes, whatever the packet held.
 use fields::ActiveFormatAspectRatio;
 use fields::ActiveFormatAspectRatioChoice;
 use fields::Colorimetry;
@@ -19,7 +19,6 @@ ghost use mathlib.Core.Path.{_≡_};
 ghost use Prim.Native.Nat.{_+_, _*_, _≤_};
 ghost use Rattle.laws.specs.Bytes.{lowFirst};
 ghost use Rattle.refusal.specs.Verdict.{verdict, kept};
-ghost use Rattle.hdmi.specs.Clock.{clockPacket};
 ghost use Rattle.hdmi.specs.Info.{frequencyCode, activePresent, audioInfoFrame, aviInfoFrame};
 ghost use Rattle.fields.specs.ScanInfo.{scanNumber};
 ghost use Rattle.fields.specs.PixelFormat.{pixelNumber};
@@ -29,33 +28,8 @@ ghost use Rattle.fields.specs.ActiveFormatAspectRatio.{activeNumber};
 ghost use Rattle.fields.specs.QuantizationRange.{quantizationNumber};
 ghost use Rattle.fields.specs.VideoCode.{codeNumber};
 ghost use Rattle.blocks.specs.Asks.{packetAsks};
-ghost use Rattle.packet.specs.Asks.{clockAsks, every, aviTests, aviAsks};
+ghost use Rattle.packet.specs.Asks.{every, aviTests, aviAsks};
 ghost use Rattle.packet.specs.Block.{infoBlock};
-
-// Audio clock regeneration: CTS and N, the same in each subpacket.
-pub fn set_audio_clock_regeneration(packet: &mut [u8], cts: u32, n: u32) -> Verdict
-    ensures { λ r. ⌜ (r ≡ verdict (clockAsks (now (packet .entry)) cts n)) × (now (packet .exit) ≡ kept (verdict (clockAsks (now (packet .entry)) cts n)) (clockPacket cts n) (now (packet .entry))) ⌝ }
-{
-    if packet.len() != 36 {
-        return Verdict::Refused(Refusal::Length);
-    }
-    if cts >= 1048576 {
-        return Verdict::Refused(Refusal::ClockValue);
-    }
-    if n >= 1048576 {
-        return Verdict::Refused(Refusal::ClockValue);
-    }
-    let block = parity::subpacket_word(
-        0,
-        (cts / 65536) as u8,
-        (cts / 256 % 256) as u8,
-        (cts % 256) as u8,
-        (n / 65536) as u8,
-        (n / 256 % 256) as u8,
-        (n % 256) as u8,
-    );
-    blocks::join_words(packet, [1, 0, 0, 0x4a], block, block, block, block)
-}
 
 // Audio info: two channels of 16 bits, at this rate.
 pub fn set_audio_info_frame(packet: &mut [u8], rate: u32) -> Verdict

@@ -218,10 +218,10 @@ fn replay_all(kinds: &[u8], list: &[u8]) {
 }
 
 // Room for the whole list.
-fn list_room() -> [u8; 524288]
-    ensures { λ r. ⌜ 524288 ≡ length r ⌝ }
+fn list_room() -> [u8; 262144]
+    ensures { λ r. ⌜ 262144 ≡ length r ⌝ }
 {
-    [0; 524288]
+    [0; 262144]
 }
 
 fn main() {

@@ -92,7 +92,7 @@ pub fn clock(c: &[u8]) -> bool {
         return false;
     }
     let mut packet = old_packet();
-    let v = packet::set_audio_clock_regeneration(&mut packet, four(c, 0), four(c, 4));
+    let v = clock::set_audio_clock_regeneration(&mut packet, four(c, 0), four(c, 4));
     made(v, &packet, &c[8..44])
 }
 

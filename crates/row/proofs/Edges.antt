@@ -1,18 +1,13 @@
 -- Each bound of the room at its edge: what is accepted last, and what is refused first.
 use mathlib.Core.Path.{_≡_, refl}
-use mathlib.Core.List.{List, [], _∷_}
-use Prim.Native.Nat.{ℕ, _/_}
+use Prim.Native.Nat.{ℕ}
 use lib.IntN.{ℤ, pos, negsuc}
-use lib.ListN.{length}
-use Rattle.refusal.specs.declared.Refusal.the-variants.{Length, Discrepancy, NotData}
+use Rattle.refusal.specs.declared.Refusal.the-variants.{Length, Discrepancy}
 use Rattle.refusal.specs.declared.Verdict.{Verdict}
 use Rattle.refusal.specs.declared.Verdict.the-variants.{Fine, Refused}
 use Rattle.refusal.specs.Verdict.{verdict}
-use Rattle.dvi.specs.Decoder.{isData, byteOf}
-use Rattle.dvi.specs.Symbol.{symbolOf}
-use Rattle.laws.proofs.Bytes.{length-numbers}
-use Rattle.row.specs.Answer.{lengthsFit, encodeRowAsks}
-use Rattle.row.specs.Wire.{encodeBytesAsks, readBytesAsks}
+use Rattle.row.specs.Answer.{encodeRowAsks}
+use Rattle.row.specs.Wire.{encodeBytesAsks}
 
 -- 4,096 bytes are one piece, 4,097 are not
 pub whole-piece : verdict (encodeRowAsks (pos 0) 4096 4096) ≡ Fine
@@ -66,26 +61,3 @@ pub bytes-discrepancy :
     (written (pos 4) 1 2 ≡ Fine) × (written (pos 5) 1 2 ≡ Refused Discrepancy) × (written (negsuc 3) 1 2 ≡ Fine) × (written (negsuc 4) 1 2 ≡ Refused Discrepancy)
     × (written (pos 5) 1 3 ≡ Refused Length)
 bytes-discrepancy = (refl, refl, refl, refl, refl)
-
--- reading: of any bytes so many
-module _ (lent : List ℕ) where
-  pub read-odd : (room : ℕ) → length lent ≡ 8191 → verdict (readBytesAsks lent room) ≡ Refused Length
-  read-odd room e = rw e
-
-  pub read-short : length lent ≡ 8190 → verdict (readBytesAsks lent 4096) ≡ Refused Length
-  read-short e = rw (length-numbers 2 (length lent / 2) lent, e)
-
-  pub read-long : length lent ≡ 8192 → verdict (readBytesAsks lent 4095) ≡ Refused Length
-  read-long e = rw (length-numbers 2 (length lent / 2) lent, e)
-
-  pub read-too-long : length lent ≡ 8194 → verdict (readBytesAsks lent 4097) ≡ Refused Length
-  read-too-long e = rw (length-numbers 2 (length lent / 2) lent, e)
-
--- 0x100 and 0x3ff are data symbols, 0x354 is none
-pub read-data : verdict (readBytesAsks (0x00 ∷ 0x01 ∷ 0xff ∷ 0x03 ∷ []) 2) ≡ Fine
-unfolding isData symbolOf byteOf
-read-data = refl
-
-pub read-no-data : verdict (readBytesAsks (0x00 ∷ 0x01 ∷ 0x54 ∷ 0x03 ∷ []) 2) ≡ Refused (NotData 1)
-unfolding isData symbolOf byteOf
-read-no-data = refl

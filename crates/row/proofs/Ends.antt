@@ -10,8 +10,8 @@ use mir.Val.{toZ, ofZ, SFits}
 use Rattle.laws.proofs.Finite.{below}
 use Rattle.laws.proofs.Integers.{each, eqZ, eqZ→eq}
 use Rattle.dvi.specs.Symbol.{inRange}
-use Rattle.row.specs.Shift.{unbiased, held, Field}
-use Rattle.row.proofs.Rules.{isField, field-of}
+use Rattle.row_tables.specs.Shift.{unbiased, held, Field}
+use Rattle.row_tables.proofs.Rules.{isField, field-of}
 
 abbrev read : ℤ → ℤ
 read z = toZ w32 (ofZ w32 z)

@@ -1,11 +1,6 @@
 pub mod Answers
-pub mod Cut
+pub mod Asked
 pub mod Edges
 pub mod Ends
-pub mod Lookups
 pub mod Order
-pub mod Reading
-pub mod Rules
 pub mod Turns
-pub mod Asked
-pub mod Symbols

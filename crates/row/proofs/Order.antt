@@ -1,13 +1,9 @@
--- The room's entries ask in the table's order, so that the refusal given is the lowest that applies.
-use mathlib.Core.List.{List}
+-- The encoder asks in the table's order, so that the refusal given is the lowest that applies.
 use Prim.Native.Nat.{ℕ}
 use lib.Dec.{T}
 use lib.IntN.{ℤ}
 use Rattle.refusal.specs.Verdict.{rising}
-use Rattle.row.specs.Answer.{encodeRowAsks, readRowAsks}
+use Rattle.row.specs.Answer.{encodeRowAsks}
 
 pub encode-row-in-order : (d : ℤ) (row room : ℕ) → T (rising (encodeRowAsks d row room))
 encode-row-in-order d row room = tt
-
-pub read-row-in-order : (ss : List ℕ) (room : ℕ) → T (rising (readRowAsks ss room))
-read-row-in-order ss room = tt

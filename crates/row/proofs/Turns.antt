@@ -11,7 +11,8 @@ use lib.Seq.{sets, drop-cons, take-suc-set, take-all}
 use Rattle.laws.specs.Bytes.{lowFirst, bytesOf}
 use Rattle.laws.proofs.Bytes.{stored, all-stored}
 use Rattle.dvi.specs.Row.{rowSymbols, rowEnd}
-use Rattle.row.specs.Shift.{unbiased, held, Field, Step, Rule, Along, Written, Stored}
+use Rattle.row_tables.specs.Shift.{unbiased, held, Field, Step, Rule}
+use Rattle.row.specs.Along.{Along, Written, Stored}
 
 -- shifting by x is shifting to x's field
 pub step-at : {shifts symbols : List ℕ} → Rule shifts symbols → (x byte : ℕ) → Field x → byte < 256

@@ -1,5 +1,3 @@
+pub mod Along
 pub mod Answer
-pub mod Lookup
-pub mod Pieces
-pub mod Shift
 pub mod Wire

@@ -1,4 +1,3 @@
-pub mod Counting
 pub mod Edges
 pub mod Order
 pub mod Reading

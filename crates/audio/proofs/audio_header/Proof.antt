@@ -8,8 +8,8 @@ use lib.Dec.{eqb}
 use Rattle.laws.specs.Bytes.{lowFirst}
 use Rattle.hdmi.specs.Parity.{withParity}
 use Rattle.laws.proofs.Arms.{armed}
-use Rattle.audio.specs.Frames.{headerRule, headerKey}
-use Rattle.audio.proofs.Headers.{header-bytes}
+use Rattle.audio_words.specs.Frames.{headerRule, headerKey}
+use Rattle.audio_words.proofs.Headers.{header-bytes}
 use Rattle.audio.proofs.audio_header.Statement.{statement}
 use Rattle.audio.proofs.audio_header.Tie as tie
 

@@ -8,8 +8,8 @@ use lib.Dec.{eqb}
 use Rattle.laws.specs.Bytes.{lowFirst}
 use Rattle.laws.specs.Arms.{Arm}
 use Rattle.laws.proofs.Arms.{armed}
-use Rattle.audio.specs.Frames.{digitRule, digitKey}
-use Rattle.audio.proofs.Digits.{added, left-digits, right-digits, digits-added, frame-sealed}
+use Rattle.audio_words.specs.Frames.{digitRule, digitKey}
+use Rattle.audio_words.proofs.Digits.{added, left-digits, right-digits, digits-added, frame-sealed}
 use Rattle.audio.proofs.frame_word.Statement.{statement}
 use Rattle.audio.proofs.frame_word.Tie as tie
 

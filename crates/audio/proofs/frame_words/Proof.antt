@@ -13,7 +13,7 @@ use lib.Seq.{getD-set-same, getD-set-other}
 use Rattle.laws.specs.Bytes.{lowFirst}
 use Rattle.hdmi.specs.Parity.{withParity}
 use Rattle.hdmi.specs.Audio.{frameBytes}
-use Rattle.audio.specs.Frames.{Framed}
+use Rattle.audio_words.specs.Frames.{Framed}
 use Rattle.audio.proofs.frame_words.Statement.{statement}
 use Rattle.audio.proofs.frame_words.Tie as tie
 

@@ -9,15 +9,16 @@ use lib.ListN.{length}
 use mir.Syntax.{w32}
 use mir.Val.{toZ, ofZ}
 use mir.Facts.{toZ-ofZ}
+use Rattle.dvi.specs.Encoder.{qmOf}
 use Rattle.dvi.specs.Row.{rowSymbols, rowEnd}
-use Rattle.dvi.specs.Symbol.{inRange, symbolOf, nextOf}
+use Rattle.dvi.specs.Symbol.{inRange, symbolOf}
 use Rattle.refusal.specs.declared.Verdict.the-variants.{Fine}
 use Rattle.refusal.specs.Verdict.{verdict}
 use Rattle.row.specs.declared.RowEncoded.the-variants.{Done}
 use Rattle.row.specs.Answer.{encodeRowAsks}
-use Rattle.row.specs.Shift.{unbiased, held}
+use Rattle.row_tables.specs.Shift.{unbiased, held}
 use Rattle.row.proofs.Asked.{same-lengths, ranged}
-use Rattle.row.proofs.Rules.{rule}
+use Rattle.row_tables.proofs.Rules.{rule}
 use Rattle.row.proofs.encode_row.Statement.{statement}
 use Rattle.row.proofs.encode_row.Tie as tie
 
@@ -48,8 +49,8 @@ begun-requires c κs =
     rw (toZ-ofZ (c .before .before .before .before .before .before .before .fits .discrepancy)) (in-range (c .before .before))
 
 fill-requires : tie.Need-fill-requires
-unfolding symbolOf nextOf
-fill-requires c κs = (rule _ _ tt, search needs, as-long (c .before .before .before .before))
+unfolding symbolOf qmOf
+fill-requires c κs = (rule _ _ refl refl, search needs, as-long (c .before .before .before .before))
 
 ended-requires : tie.Need-ended-requires
 ended-requires c κs = search needs

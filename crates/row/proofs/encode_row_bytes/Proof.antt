@@ -9,15 +9,16 @@ use lib.IntN.{ℤ}
 use lib.ListN.{length}
 use mir.Facts.{toZ-ofZ}
 use Rattle.laws.specs.Bytes.{bytesOf}
+use Rattle.dvi.specs.Encoder.{qmOf}
 use Rattle.dvi.specs.Row.{rowSymbols, rowEnd}
-use Rattle.dvi.specs.Symbol.{inRange, symbolOf, nextOf}
+use Rattle.dvi.specs.Symbol.{inRange, symbolOf}
 use Rattle.refusal.specs.declared.Verdict.the-variants.{Fine}
 use Rattle.refusal.specs.Verdict.{verdict}
 use Rattle.row.specs.declared.RowEncoded.the-variants.{Done}
 use Rattle.row.specs.Answer.{encodeRowAsks}
-use Rattle.row.specs.Shift.{unbiased, held}
+use Rattle.row_tables.specs.Shift.{unbiased, held}
 use Rattle.row.proofs.Asked.{same-lengths, ranged, twice}
-use Rattle.row.proofs.Rules.{rule}
+use Rattle.row_tables.proofs.Rules.{rule}
 use Rattle.row.proofs.encode_row_bytes.Statement.{statement}
 use Rattle.row.proofs.encode_row_bytes.Tie as tie
 
@@ -52,8 +53,8 @@ begun-requires : tie.Need-begun-requires
 begun-requires c κs = rw (toZ-ofZ (c .before .before .before .before .before .before .before .before .fits .discrepancy)) (in-range (c .before .before))
 
 fill-stored-requires : tie.Need-fill-stored-requires
-unfolding symbolOf nextOf
-fill-stored-requires c κs = (rule _ _ tt, search needs, twice-as-long (c .before .before .before .before))
+unfolding symbolOf qmOf
+fill-stored-requires c κs = (rule _ _ refl refl, search needs, twice-as-long (c .before .before .before .before))
 
 ended-requires : tie.Need-ended-requires
 ended-requires c κs = search needs

@@ -4,7 +4,8 @@ use Prim.Native.Nat.{ℕ, _≤_, _-_}
 use native.Mathlib.Omega.{arith}
 use borrow.Author.Needs.{needs}
 use lib.ListN.{length}
-use Rattle.row.specs.Shift.{unbiased, held, Field, Written}
+use Rattle.row_tables.specs.Shift.{unbiased, held, Field}
+use Rattle.row.specs.Along.{Written}
 use Rattle.row.proofs.Turns.{at-start, all-written}
 use Rattle.row.proofs.fill.Statement.{statement}
 use Rattle.row.proofs.fill.Tie as tie

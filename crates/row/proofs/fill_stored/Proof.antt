@@ -4,7 +4,8 @@ use Prim.Native.Nat.{ℕ, _*_, _≤_, _-_}
 use native.Mathlib.Omega.{arith}
 use borrow.Author.Needs.{needs}
 use lib.ListN.{length}
-use Rattle.row.specs.Shift.{unbiased, held, Field, Stored}
+use Rattle.row_tables.specs.Shift.{unbiased, held, Field}
+use Rattle.row.specs.Along.{Stored}
 use Rattle.row.proofs.Turns.{stored-start, stored-end}
 use Rattle.row.proofs.fill_stored.Statement.{statement}
 use Rattle.row.proofs.fill_stored.Tie as tie

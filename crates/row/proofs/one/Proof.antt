@@ -3,7 +3,7 @@ use Prim.Native.Nat.{_<_}
 use native.Mathlib.Omega.{arith}
 use borrow.Author.Needs.{needs}
 use lib.ListN.{length, take, getD, length-set}
-use Rattle.row.specs.Shift.{unbiased, held, Step}
+use Rattle.row_tables.specs.Shift.{unbiased, held, Step}
 use Rattle.row.proofs.Turns.{step-at, next-along, written-more}
 use Rattle.row.proofs.one.Statement.{statement}
 use Rattle.row.proofs.one.Tie as tie

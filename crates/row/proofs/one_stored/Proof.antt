@@ -3,7 +3,7 @@ use Prim.Native.Nat.{_+_, _*_, _<_, _≤_}
 use native.Mathlib.Omega.{arith}
 use borrow.Author.Needs.{needs}
 use lib.ListN.{length, getD}
-use Rattle.row.specs.Shift.{unbiased, held, Step}
+use Rattle.row_tables.specs.Shift.{unbiased, held, Step}
 use Rattle.row.proofs.Turns.{step-at, next-stored}
 use Rattle.row.proofs.one_stored.Statement.{statement}
 use Rattle.row.proofs.one_stored.Tie as tie

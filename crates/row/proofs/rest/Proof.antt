@@ -5,7 +5,8 @@ use native.Mathlib.Omega.{arith}
 use borrow.Author.Needs.{needs}
 use lib.IntN.{ℤ}
 use lib.ListN.{length}
-use Rattle.row.specs.Shift.{Field, Written}
+use Rattle.row_tables.specs.Shift.{Field}
+use Rattle.row.specs.Along.{Written}
 use Rattle.row.proofs.Turns.{on-to}
 use Rattle.row.proofs.rest.Statement.{statement}
 use Rattle.row.proofs.rest.Tie as tie

@@ -1,22 +1,8 @@
--- `restored` is the decoder's chart, computed at all 1,024 numbers of ten bits.
-use mathlib.Core.Path.{_≡_}
-use Prim.Native.Nat.{ℕ, _-_, _*_, _/_, _%_, _<_}
+-- `restored` is the decoder's chart.
 use borrow.Author.Needs.{needs}
-use lib.Bits.{bitXor}
-use Rattle.laws.proofs.Finite.{agreed}
-use Rattle.dvi.specs.Decoder.{byteOf}
+use Rattle.charts.proofs.Decoding.{product-is-byte}
 use Rattle.symbol.proofs.restored.Statement.{statement}
 use Rattle.symbol.proofs.restored.Tie as tie
-
-abbrev low : ℕ → ℕ
-low s = bitXor (s % 256) ((s / 512) * 255)
-
-abbrev product : ℕ → ℕ
-product s = bitXor (bitXor ((low s * 2) % 4294967296) (low s)) ((1 - (s / 256) % 2) * 254) % 256
-
-product-is-byte : (s : ℕ) → s < 1024 → product s ≡ byteOf s
-unfolding byteOf
-product-is-byte s l = agreed product byteOf 1024 tt s l
 
 mul-low : tie.Need-mul-low
 mul-low c = search needs

@@ -10,7 +10,7 @@ use Rattle.dvi.specs.Plain.{onesOf}
 use Rattle.dvi.specs.Symbol.{inRange, symbolOf, nextOf}
 use Rattle.dvi.proofs.Symbols.{qm-small, sent-qm, symbol-small, next-by-ones}
 use Rattle.symbol.specs.declared.Stepped.{Stepped}
-use Rattle.symbol.proofs.Counting.{count-ones, ones-small, less-five-fits, sum-fits, sum-read}
+use Rattle.charts.proofs.Counting.{count-ones, ones-small, less-five-fits, sum-fits, sum-read}
 use Rattle.symbol.proofs.step.Statement.{statement}
 use Rattle.symbol.proofs.step.Tie as tie
 

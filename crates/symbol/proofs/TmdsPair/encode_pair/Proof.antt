@@ -8,7 +8,7 @@ use mir.Val.{ofZ, SFits}
 use Rattle.dvi.proofs.Symbols.{range-fits, stays}
 use Rattle.symbol.specs.declared.PairEnd.{PairEnd}
 use Rattle.symbol.specs.Pair.{endOf}
-use Rattle.symbol.proofs.Counting.{reads-zero, reads-other}
+use Rattle.charts.proofs.Counting.{reads-zero, reads-other}
 use Rattle.symbol.proofs.TmdsPair.encode_pair.Statement.{statement}
 use Rattle.symbol.proofs.TmdsPair.encode_pair.Tie as tie
 
