@@ -1,4 +1,5 @@
 pub mod Answers
+pub mod Beside
 pub mod Characters
 pub mod Edges
 pub mod Filling

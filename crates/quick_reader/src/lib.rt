@@ -48,13 +48,13 @@ const SPREAD: [u8; 32] = [
     0,
 ];
 
-// The marks of lanes 1 and 2, a byte for each, of words 2 to 33.
-fn mark(words: &[u32], marks: &mut [u32; 32])
+// The marks of lanes 1 and 2, a byte for each, of all 36 words: from the first on, so that the loads are those of whole stores.
+fn mark(words: &[u32], marks: &mut [u32; 36])
     requires { ⌜ length (now words) ≡ 36 ⌝ }
 {
     let mut k = 0;
-    while k < 32 {
-        let w = words[2 + k];
+    while k < 36 {
+        let w = words[k];
         let t = w ^ ((w >> 4) & 0x03f0fc3f);
         marks[k] = ((t >> 12) & 0x1f) | ((t >> 14) & 0x1f00);
         k += 1;
@@ -67,14 +67,14 @@ fn paired(lane_1: u8, lane_2: u8) -> u64 {
 }
 
 // The bit pairs of every fourth character from j on, a byte for each.
-fn row(spread: &[u8; 32], marks: &[u32; 32], j: usize) -> u64
+fn row(spread: &[u8; 32], marks: &[u32; 36], j: usize) -> u64
     requires { ⌜ j < 4 ⌝ }
 {
     let mut v = 0;
     let mut i = 8;
     while i > 0 {
         i -= 1;
-        let m = marks[4 * i + j];
+        let m = marks[2 + 4 * i + j];
         let pairs = paired(spread[(m % 32) as usize], spread[((m >> 8) % 32) as usize]);
         v = (v << 8) | pairs;
     }
@@ -85,12 +85,13 @@ fn row(spread: &[u8; 32], marks: &[u32; 32], j: usize) -> u64
 fn guessed_rows(words: &[u32]) -> [u64; 4]
     requires { ⌜ length (now words) ≡ 36 ⌝ }
 {
-    let mut marks = [0u32; 32];
+    let mut marks = [0u32; 36];
     mark(words, &mut marks);
-    let a = row(&SPREAD, &marks, 0);
-    let b = row(&SPREAD, &marks, 1);
-    let c = row(&SPREAD, &marks, 2);
-    let d = row(&SPREAD, &marks, 3);
+    let spread = SPREAD;
+    let a = row(&spread, &marks, 0);
+    let b = row(&spread, &marks, 1);
+    let c = row(&spread, &marks, 2);
+    let d = row(&spread, &marks, 3);
     [a, b, c, d]
 }
 
@@ -157,21 +158,22 @@ fn same(a: &[u32], b: &[u32]) -> bool
     all
 }
 
-// Whether the words are the island of a packet.
-fn written(hv: u8, packet: &[u8], words: &[u32]) -> bool
-    requires { ⌜ (hv < 4) × (length (now packet) ≡ 36) × (length (now words) ≡ 36) ⌝ }
-    ensures { λ r. ⌜ (r ≡ true → now (words .entry) ≡ island hv (now (packet .entry))) ⌝ }
+// The island of a packet.
+fn again(hv: u8, packet: &[u8]) -> [u32; 36]
+    requires { ⌜ (hv < 4) × (length (now packet) ≡ 36) ⌝ }
+    ensures { λ r. ⌜ r ≡ island hv (now (packet .entry)) ⌝ }
 {
-    let mut again = [0u32; 36];
-    island::encode(hv, packet, &mut again);
-    same(words, &again)
+    let mut words = [0u32; 36];
+    island::encode(hv, packet, &mut words);
+    words
 }
 
 fn subpacket(rows: &[u64; 4], s: u32) -> u64 {
     island::side_by_side(rows[0], rows[1], rows[2], rows[3], s)
 }
 
-// Whether the words are the island of a packet with right parity; and the packet. Where it is false they may still be one.
+// Whether the words are the island of a packet with right parity; and the packet. Where it is false they may still be one. The parity is asked between
+// writing and comparing, which gives the words time to be stored.
 fn known(hv: u8, words: &[u32], packet: &mut [u8]) -> bool
     requires { ⌜ (hv < 4) × (length (now words) ≡ 36) × (length (now packet) ≡ 36) ⌝ }
     ensures { λ r. ⌜ (r ≡ true → Encodes hv (now (packet .exit)) (now (words .entry))) ⌝ }
@@ -182,11 +184,12 @@ fn known(hv: u8, words: &[u32], packet: &mut [u8]) -> bool
     let b = subpacket(&rows, 1);
     let c = subpacket(&rows, 2);
     let d = subpacket(&rows, 3);
+    blocks::join_words(packet, header_bytes(h), a, b, c, d);
+    let island = again(hv, packet);
     if !right_blocks(h, a, b, c, d) {
         return false;
     }
-    blocks::join_words(packet, header_bytes(h), a, b, c, d);
-    written(hv, packet, words)
+    same(words, &island)
 }
 
 fn copy(from: &[u8], to: &mut [u8])

@@ -6,16 +6,13 @@ use Rattle.quick_reader.proofs.mark.Statement.{statement}
 use Rattle.quick_reader.proofs.mark.Tie as tie
 
 abbrev Inv-loop : tie.InvT-loop
-Inv-loop words marks₀ k₀ marks k = k ≤ 32
+Inv-loop words marks₀ k₀ marks k = k ≤ 36
 
 abbrev μ-loop : tie.MeasureT-loop
-μ-loop words marks₀ k₀ marks k = 32 - k
+μ-loop words marks₀ k₀ marks k = 36 - k
 
 loop-holds : tie.Need-loop-holds Inv-loop μ-loop
 loop-holds c = omega arith
-
-add-w : tie.Need-add-w Inv-loop μ-loop
-add-w c = search needs
 
 mul-w : tie.Need-mul-w Inv-loop μ-loop
 mul-w c = search needs
@@ -48,7 +45,6 @@ mark-spec =
     Inv-loop
     μ-loop
     loop-holds
-    add-w
     mul-w
     shared-slice-read-w
     mul-marks

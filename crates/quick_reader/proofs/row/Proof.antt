@@ -23,6 +23,9 @@ mul-m c = search needs
 add-m : tie.Need-add-m Inv-loop μ-loop
 add-m c = search needs
 
+add-m-2 : tie.Need-add-m-2 Inv-loop μ-loop
+add-m-2 c = search needs
+
 mul-m-2 : tie.Need-mul-m-2 Inv-loop μ-loop
 mul-m-2 c = search needs
 
@@ -63,6 +66,7 @@ row-spec =
     sub-i
     mul-m
     add-m
+    add-m-2
     mul-m-2
     element-copy-out-m
     cast-paired
