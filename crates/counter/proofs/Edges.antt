@@ -15,7 +15,7 @@ use Rattle.timing.specs.declared.DviTiming.{DviTiming}
 use Rattle.timing.specs.LineState.{stateAt}
 use Rattle.timing.specs.Timing.{inactive, total, timingAsks}
 use Rattle.timing.proofs.Ranges.{accepted}
-use Rattle.timing.proofs.Upward.{continued, passes, fails, answers, hands-on}
+use Rattle.refusal.proofs.Upward.{continued, passes, fails, answers, hands-on}
 use Rattle.counter.specs.declared.Advanced.the-variants as advanced
 use Rattle.counter.specs.declared.VState.the-variants as vstate
 use Rattle.counter.specs.declared.Scanline.the-variants as scanline

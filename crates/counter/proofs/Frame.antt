@@ -17,7 +17,7 @@ use Rattle.timing.specs.declared.DviTiming.{DviTiming}
 use Rattle.timing.specs.declared.DviTimingLineState.{DviTimingLineState}
 use Rattle.timing.specs.LineState.{linesIn, stateAt}
 use Rattle.timing.specs.Timing.{total, timingAsks}
-use Rattle.timing.proofs.Upward.{continued, passes, answers}
+use Rattle.refusal.proofs.Upward.{continued, passes, answers}
 use Rattle.counter.specs.declared.DviTimingState.{DviTimingState}
 use Rattle.counter.specs.declared.Advanced.{Advanced}
 use Rattle.counter.specs.declared.Advanced.the-variants.{Next, Refused}

@@ -11,7 +11,7 @@ use Rattle.refusal.specs.Verdict.{verdict}
 use Rattle.timing.specs.declared.DviTiming.{DviTiming}
 use Rattle.timing.specs.Timing.{total, timingAsks}
 use Rattle.timing.proofs.Ranges.{Accepted, accepted}
-use Rattle.timing.proofs.Upward.{held, both-fine}
+use Rattle.refusal.proofs.Upward.{held, both-fine}
 use Rattle.counter.specs.Counter.{belowTotal, counterAsks, offsetFits, scanlineAsks}
 
 pub record Counted (t : DviTiming) (c : ℕ) : Type 0 where

@@ -24,7 +24,8 @@ use Rattle.island_reader.specs.Exact.{Encodes}
 use Rattle.island_reader.specs.Found.{pairOf, packetFound}
 use Rattle.island_reader.specs.Read.{nowhere, wordAsks, parityAsks, readAsks, readAnswer, readOut}
 use Rattle.island_reader.proofs.Agree.{length-found}
-use Rattle.island_reader.proofs.Chain.{passed, both-passed, all-asked}
+use Rattle.refusal.proofs.Upward.{passed, both-fine}
+use Rattle.island_reader.proofs.Chain.{all-asked}
 use Rattle.island_reader.proofs.Nowhere.{holds-means, holds-where}
 use Rattle.island_reader.proofs.Sound.{found-lt, pair-lt, sound}
 use Rattle.island_reader.proofs.Whole.{pair-found, island-passes}
@@ -65,7 +66,7 @@ module _ (ws out : List ℕ) where
   all-passed e =
       let a = passed (ask (eqb (length ws) 36) Length) (ask (eqb (length out) 36) Length ∷ rest) e in
       let b = passed (ask (eqb (length out) 36) Length) rest (a .1) in
-      let c = both-passed (wordAsks ws) (parityAsks (packetFound ws)) (b .1) in
+      let c = both-fine (wordAsks ws) (parityAsks (packetFound ws)) (b .1) in
       (eqb-true (length ws) 36 (a .0), eqb-true (length out) 36 (b .0), c .0, c .1)
 
   -- what is accepted is the encoding of what is answered

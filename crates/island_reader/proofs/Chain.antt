@@ -13,6 +13,7 @@ use Rattle.refusal.specs.declared.Refusal.the-variants.{GuardWord, NotTerc4}
 use Rattle.refusal.specs.declared.Verdict.{Verdict}
 use Rattle.refusal.specs.declared.Verdict.the-variants.{Fine, Refused}
 use Rattle.refusal.specs.Verdict.{Ask, unless, verdict, answered, kept}
+use Rattle.refusal.proofs.Upward.{passed}
 use Rattle.refusal.proofs.Verdicts.{joined, stops, goes-on}
 use Rattle.hdmi.specs.Island.{guardWord}
 use Rattle.island_reader.specs.declared.IslandRead.{IslandRead}
@@ -29,15 +30,8 @@ first-refuses q qs e = joined (q ∷ []) qs ∙ stops (verdict qs) e
 pub first-passes : (q : Ask) (qs : List Ask) → verdict (q ∷ []) ≡ Fine → verdict (q ∷ qs) ≡ verdict qs
 first-passes q qs e = joined (q ∷ []) qs ∙ goes-on e
 
-holds-by : (t : Bool) (r : Refusal) → unless t r Fine ≡ Fine → t ≡ true
-holds-by true r e = refl
-holds-by false r e = let z : _≡_ {A = ℕ} 0 1 = cc in absurd (omega arith)
-
 pub fine-holds : (q : Ask) → verdict (q ∷ []) ≡ Fine → q .holds ≡ true
-fine-holds q = holds-by (q .holds) (q .otherwise)
-
-pub refused-isn't-fine : {r : Refusal} {v : Verdict} → v ≡ Refused r → v ≡ Fine → ⊥
-refused-isn't-fine d e = let z : _≡_ {A = ℕ} 0 1 = cc in omega arith
+fine-holds q e = passed q [] e .0
 
 -- ---- four of them
 
@@ -53,21 +47,6 @@ pub fourth-decides : (a b c d : Ask) → verdict (a ∷ []) ≡ Fine → verdict
 fourth-decides a b c d x y z = first-passes a (b ∷ c ∷ d ∷ []) x ∙ first-passes b (c ∷ d ∷ []) y ∙ first-passes c (d ∷ []) z
 
 -- ---- what the words have passed
-
-passed-by : (t : Bool) (r : Refusal) (v : Verdict) → unless t r v ≡ Fine → (t ≡ true) × (v ≡ Fine)
-passed-by true r v e = (refl, e)
-passed-by false r v e = let z : _≡_ {A = ℕ} 0 1 = cc in absurd (omega arith)
-
-pub passed : (q : Ask) (qs : List Ask) → verdict (q ∷ qs) ≡ Fine → (q .holds ≡ true) × (verdict qs ≡ Fine)
-passed q qs = passed-by (q .holds) (q .otherwise) (verdict qs)
-
--- a chain of two, where the first or both are fine
-pub both-passed : (qs ps : List Ask) → verdict (qs ++ ps) ≡ Fine → (verdict qs ≡ Fine) × (verdict ps ≡ Fine)
-both-passed [] ps e = (refl, e)
-both-passed (q ∷ qs) ps e =
-    let h = passed q (qs ++ ps) e in
-    let r = both-passed qs ps (h .1) in
-    (ap (λ (t : Bool). unless t (q .otherwise) (verdict qs)) (h .0) ∙ r .0, r .1)
 
 module _ (ws : List ℕ) where
   abbrev hv : ℕ

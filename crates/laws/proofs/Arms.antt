@@ -3,27 +3,20 @@
 use mathlib.Core.Path.{_≡_, sym, ap, _∙_}
 use mathlib.Core.Bool.{Bool, true, false}
 use mathlib.Core.Logic.{⊎-elim}
-use mathlib.Core.List.{[], _∷_}
 use Prim.Native.Nat.{ℕ, zero, suc, _+_, _≤_, _<_}
 use native.Mathlib.Nat.{eq-or-lt-of-le, le-of-suc-le-suc}
 use native.Mathlib.Omega.{arith}
-use types.Run.{OneOf}
 use Rattle.laws.specs.Arms.{NoKey, Arm}
 
--- x is none of the keys below n
-abbrev pub Others : ℕ → ℕ → Type 0
-Others zero x = Unit
-Others (suc n) x = Others n x × (OneOf (n ∷ []) x → ⊥)
-
-pub last-arm : (n x : ℕ) → x < suc n → Others n x → x ≡ n
-last-arm zero x h others = omega arith
-last-arm (suc n) x h others =
-    ⊎-elim (λ e. e) (λ (l : x < suc n). absurd (others .1 (last-arm n x l (others .0)))) (eq-or-lt-of-le (le-of-suc-le-suc h))
-
+-- a key is one of the keys
 no-key : (x i n : ℕ) → i ≤ x → x < i + n → NoKey x i n → ⊥
 no-key x i zero l h k = absurd (omega arith)
 no-key x i (suc n) l h k =
     ⊎-elim (λ (e : x ≡ i + n). k .1 e) (λ (s : x < i + n). no-key x i n l s (k .0)) (eq-or-lt-of-le (omega arith))
+
+pub last-arm : (n x : ℕ) → x < suc n → NoKey x 0 n → x ≡ n
+last-arm n x h k =
+    ⊎-elim (λ e. e) (λ (l : x < n). absurd (no-key x 0 n (omega arith) (omega arith) k)) (eq-or-lt-of-le (le-of-suc-le-suc h))
 
 pub armed : (rule key : ℕ → ℕ) (i n x r : ℕ) (b : Bool) → Arm b rule key i n x r → i ≤ x → x < i + n → r ≡ rule x
 armed rule key i n x r false a l h = sym (a .1) ∙ ap rule (a .0)

@@ -9,7 +9,7 @@ use Rattle.refusal.specs.declared.Verdict.the-variants.{Fine}
 use Rattle.refusal.specs.Verdict.{verdict}
 use Rattle.timing.specs.declared.DviTiming.{DviTiming}
 use Rattle.timing.specs.Timing.{timingAsks}
-use Rattle.timing.proofs.Upward.{held}
+use Rattle.refusal.proofs.Upward.{held}
 use Rattle.line.specs.Asks.{longAs, knownState, lineAsks, islandAsks}
 
 pub line-held : (t : DviTiming) (have want : ℕ) → verdict (lineAsks t have want) ≡ Fine → (have ≡ want) × (verdict (timingAsks t) ≡ Fine)

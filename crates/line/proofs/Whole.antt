@@ -17,7 +17,7 @@ use Rattle.timing.specs.declared.DviTiming.{DviTiming}
 use Rattle.timing.specs.Command.{commanded}
 use Rattle.timing.specs.Sync.{pairFor}
 use Rattle.timing.specs.Timing.{timingAsks}
-use Rattle.timing.proofs.Upward.{held}
+use Rattle.refusal.proofs.Upward.{held}
 use Rattle.line.specs.Asks.{longAs, knownState, lineAsks, islandAsks}
 use Rattle.line.specs.Line.{vSync, lead, islandWords, commandPlace, replaced, initLine, encodeLine}
 use Rattle.line.proofs.Ready.{island-held}

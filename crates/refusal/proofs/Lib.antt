@@ -1,1 +1,2 @@
+pub mod Upward
 pub mod Verdicts

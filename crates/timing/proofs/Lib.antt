@@ -3,4 +3,3 @@ pub mod Expanding
 pub mod Levels
 pub mod Order
 pub mod Ranges
-pub mod Upward

@@ -11,7 +11,7 @@ use Rattle.refusal.specs.declared.Verdict.the-variants.{Fine}
 use Rattle.refusal.specs.Verdict.{verdict}
 use Rattle.timing.specs.declared.DviTiming.{DviTiming}
 use Rattle.timing.specs.Timing.{within, ranges, rangeAsks, timingAsks}
-use Rattle.timing.proofs.Upward.{held}
+use Rattle.refusal.proofs.Upward.{held}
 
 pub record Within (low x : ℕ) : Type 0 where
   pub least : low ≤ x

@@ -12,7 +12,7 @@ use Rattle.refusal.specs.declared.Verdict.the-variants.{Fine, Refused}
 use Rattle.refusal.specs.Verdict.{unless, kept}
 use Rattle.refusal.proofs.Verdicts.{holds-first}
 use Rattle.laws.proofs.Truth.{T-true}
-use Rattle.timing.proofs.Upward.{never}
+use Rattle.refusal.proofs.Upward.{never}
 use Rattle.crossing.specs.declared.Answer.{Answer}
 use Rattle.crossing.specs.Crossing.{told}
 use Rattle.word_bytes.specs.Words.{fourEach, wordsFirst}

@@ -5,7 +5,7 @@ use native.Mathlib.Omega.{arith}
 use borrow.Author.Tests.{lt-ltb, le-ltb}
 use Rattle.refusal.specs.declared.Refusal.the-variants.{LineCounter}
 use Rattle.timing.specs.Timing.{total, timingAsks}
-use Rattle.timing.proofs.Upward.{returned, continued, passes, fails}
+use Rattle.refusal.proofs.Upward.{returned, continued, passes, fails}
 use Rattle.counter.specs.Counter.{belowTotal}
 use borrow.Author.Needs.{needs}
 use Rattle.counter.proofs.counted.Statement.{statement}

@@ -4,7 +4,7 @@ use Prim.Native.Nat.{_+_, _≤_, _<_}
 use native.Mathlib.Omega.{arith}
 use borrow.Author.Tests.{le-leb, lt-leb}
 use Rattle.refusal.specs.declared.Refusal.the-variants.{LineOffset}
-use Rattle.timing.proofs.Upward.{returned, continued, passes, fails}
+use Rattle.refusal.proofs.Upward.{returned, continued, passes, fails}
 use Rattle.counter.specs.Counter.{counterAsks, offsetFits}
 use borrow.Author.Needs.{needs}
 use Rattle.counter.proofs.reached.Statement.{statement}

@@ -8,6 +8,7 @@ use lib.ListN.{length}
 use Rattle.refusal.specs.declared.Refusal.the-variants.{Length}
 use Rattle.refusal.specs.declared.Verdict.the-variants.{Fine}
 use Rattle.refusal.specs.Verdict.{unless, verdict, kept}
+use Rattle.refusal.proofs.Upward.{never}
 use Rattle.refusal.proofs.Verdicts.{joined, stops, goes-on}
 use Rattle.hdmi.specs.Packet.{sealed}
 use Rattle.hdmi.proofs.Packet.{sealed-right}
@@ -15,7 +16,7 @@ use Rattle.island_reader.specs.Found.{packetFound}
 use Rattle.island_reader.specs.Numbers.{packetIn}
 use Rattle.island_reader.specs.Read.{wordAsks, parityAsks}
 use Rattle.island_reader.proofs.Agree.{packet-agrees}
-use Rattle.island_reader.proofs.Chain.{refused-isn't-fine, words-passed, lanes-right}
+use Rattle.island_reader.proofs.Chain.{words-passed, lanes-right}
 use Rattle.island_reader.proofs.Unpacking.{length-packet}
 use borrow.Author.Needs.{needs}
 use Rattle.island_reader.proofs.check.Statement.{statement}
@@ -48,7 +49,7 @@ returns c =
     let r = c .enum-told2 .given .1 in
     let v = c .before .before .before .judge .ensures .0 in (
       r ∙ sym (joined (wordAsks ws) (parityAsks (packetFound ws)) ∙ stops (verdict (parityAsks (packetFound ws))) (sym v ∙ r)),
-      λ e. absurd (refused-isn't-fine r e),
+      λ e. absurd (never e r),
     )
 
 slice-aggregate-unpack : tie.Need-slice-aggregate-unpack

@@ -13,7 +13,8 @@ use Rattle.island_reader.specs.Found.{pairOf}
 use Rattle.island_reader.specs.Numbers.{syncUnlike}
 use Rattle.island_reader.specs.Read.{nowhere, highAsk, guardAsk, laneAsk, syncAsk, wordAsks}
 use Rattle.island_reader.proofs.Agree.{sync-ask-agrees}
-use Rattle.island_reader.proofs.Chain.{fine-holds, first-refuses, second-refuses, third-refuses, fourth-decides, refused-isn't-fine, guard-right, lanes-right}
+use Rattle.refusal.proofs.Upward.{never}
+use Rattle.island_reader.proofs.Chain.{fine-holds, first-refuses, second-refuses, third-refuses, fourth-decides, guard-right, lanes-right}
 use Rattle.island_reader.proofs.Nibbles.{length-numbers}
 use borrow.Author.Needs.{needs}
 use Rattle.island_reader.proofs.judge.Statement.{statement}
@@ -41,7 +42,7 @@ returns c =
     let ws : List ℕ = c .before .before .before .before .before .args .words .now in
     let v = c .before .before .high-bits .ensures in
     let r = c .enum-told2 .given .1 in
-    (in-all ws (first-refuses (highAsk ws) (guardAsk (pairOf (getD ws 0 0)) ws ∷ laneAsk ws ∷ syncAsk (pairOf (getD ws 0 0)) ws ∷ []) (sym v ∙ r)) r, λ e. absurd (refused-isn't-fine r e))
+    (in-all ws (first-refuses (highAsk ws) (guardAsk (pairOf (getD ws 0 0)) ws ∷ laneAsk ws ∷ syncAsk (pairOf (getD ws 0 0)) ws ∷ []) (sym v ∙ r)) r, λ e. absurd (never e r))
 
 guards-requires : tie.Need-guards-requires
 guards-requires c κs = search needs
@@ -60,7 +61,7 @@ returns-2 c =
     let x = sym (c .before .before .before .before .before .high-bits .ensures) ∙ c .before .before .before .enum-told .given .1 in
     let y = c .before .before .guards .ensures ∙ ap (λ (h : ℕ). verdict (guardAsk h ws ∷ [])) (start .pre .3) in
     let r = c .enum-told4 .given .1 in
-    (in-all ws (second-refuses (highAsk ws) (guardAsk hv ws) (laneAsk ws) (syncAsk hv ws) x (sym y ∙ r)) r, λ e. absurd (refused-isn't-fine r e))
+    (in-all ws (second-refuses (highAsk ws) (guardAsk hv ws) (laneAsk ws) (syncAsk hv ws) x (sym y ∙ r)) r, λ e. absurd (never e r))
 
 lanes-requires : tie.Need-lanes-requires
 lanes-requires c κs = search needs
@@ -83,7 +84,7 @@ returns-3 c =
     let g = c .before .before .before .before .before .before .before .before .guards .ensures ∙ ap (λ (h : ℕ). verdict (guardAsk h ws ∷ [])) (start .pre .3) in
     let y = sym g ∙ c .before .before .before .before .before .before .enum-told3 .given .1 in
     let r = c .enum-told6 .given .1 in
-    (in-all ws (third-refuses (highAsk ws) (guardAsk hv ws) (laneAsk ws) (syncAsk hv ws) x y (sym (c .before .before .before .before .lanes .ensures .0) ∙ r)) r, λ e. absurd (refused-isn't-fine r e))
+    (in-all ws (third-refuses (highAsk ws) (guardAsk hv ws) (laneAsk ws) (syncAsk hv ws) x y (sym (c .before .before .before .before .lanes .ensures .0) ∙ r)) r, λ e. absurd (never e r))
 
 sync-requires : tie.Need-sync-requires
 sync-requires c κs =

@@ -2,7 +2,7 @@
 use mathlib.Core.Path.{sym, _∙_}
 use lib.ListN.{length}
 use denote.Ref.{now}
-use Rattle.timing.proofs.Upward.{writes, leaves}
+use Rattle.refusal.proofs.Upward.{writes, leaves}
 use Rattle.line.proofs.Ready.{island-held}
 use borrow.Author.Needs.{needs}
 use Rattle.line.proofs.encode_data_island_empty.Statement.{statement}

@@ -6,7 +6,7 @@ use native.Mathlib.Omega.{arith}
 use lib.ListN.{length, take, drop, length-take, length-drop}
 use denote.Ref.{now}
 use Rattle.hdmi.specs.Island.{island}
-use Rattle.timing.proofs.Upward.{never, writes}
+use Rattle.refusal.proofs.Upward.{never, writes}
 use Rattle.line.proofs.Stores.{encode-made, island-fine}
 use borrow.Author.Needs.{needs}
 use Rattle.line.proofs.encode_words.Statement.{statement}

@@ -2,7 +2,7 @@
 use mathlib.Core.Path.{_∙_}
 use mathlib.Core.List.{_++_}
 use Rattle.timing.specs.Timing.{timingAsks}
-use Rattle.timing.proofs.Upward.{returned, continued}
+use Rattle.refusal.proofs.Upward.{returned, continued}
 use Rattle.line.specs.Asks.{longAs, knownState}
 use borrow.Author.Needs.{needs}
 use Rattle.line.proofs.island_ready.Statement.{statement}

@@ -1,7 +1,7 @@
 -- `line::known_state` meets its contract.
 use borrow.Author.Tests.{lt-ltb, le-ltb}
 use Rattle.refusal.specs.declared.Refusal.the-variants.{Unlisted}
-use Rattle.timing.proofs.Upward.{passes, fails}
+use Rattle.refusal.proofs.Upward.{passes, fails}
 use Rattle.line.proofs.known_state.Statement.{statement}
 use Rattle.line.proofs.known_state.Tie as tie
 

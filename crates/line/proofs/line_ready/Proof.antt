@@ -1,7 +1,7 @@
 -- `line::line_ready` meets its contract.
 use mathlib.Core.Path.{_∙_}
 use Rattle.timing.specs.Timing.{timingAsks}
-use Rattle.timing.proofs.Upward.{returned, continued}
+use Rattle.refusal.proofs.Upward.{returned, continued}
 use Rattle.line.specs.Asks.{longAs}
 use borrow.Author.Needs.{needs}
 use Rattle.line.proofs.line_ready.Statement.{statement}

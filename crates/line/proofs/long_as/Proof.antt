@@ -1,7 +1,7 @@
 -- `line::long_as` meets its contract.
 use borrow.Author.Tests.{eq-eqb, ne-eqb}
 use Rattle.refusal.specs.declared.Refusal.the-variants.{Length}
-use Rattle.timing.proofs.Upward.{passes, fails}
+use Rattle.refusal.proofs.Upward.{passes, fails}
 use Rattle.line.proofs.long_as.Statement.{statement}
 use Rattle.line.proofs.long_as.Tie as tie
 

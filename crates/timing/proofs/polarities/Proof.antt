@@ -1,6 +1,6 @@
 -- `timing::polarities` meets its contract.
 use Rattle.refusal.specs.declared.Refusal.the-variants.{Unlisted}
-use Rattle.timing.proofs.Upward.{passes, fails}
+use Rattle.refusal.proofs.Upward.{passes, fails}
 use Rattle.timing.proofs.polarities.Statement.{statement}
 use Rattle.timing.proofs.polarities.Tie as tie
 

@@ -1,7 +1,7 @@
 -- `counter::DviTimingState::advance` meets its contract.
 use mathlib.Core.Path.{sym, ap, _∙_}
 use Prim.Native.Nat.{ℕ}
-use Rattle.timing.proofs.Upward.{answers, hands-on}
+use Rattle.refusal.proofs.Upward.{answers, hands-on}
 use Rattle.counter.specs.declared.Advanced.the-variants.{Next}
 use Rattle.counter.specs.Counter.{counterAt}
 use Rattle.counter.proofs.Lines.{counted, total-most}

@@ -1,7 +1,7 @@
 -- `counter::DviTimingState::v_scanline_index` meets its contract.
 use mathlib.Core.Path.{sym, _∙_}
 use native.Mathlib.Omega.{arith}
-use Rattle.timing.proofs.Upward.{answers, hands-on}
+use Rattle.refusal.proofs.Upward.{answers, hands-on}
 use Rattle.counter.proofs.Lines.{offset-fits}
 use borrow.Author.Needs.{needs}
 use Rattle.counter.proofs.DviTimingState.v_scanline_index.Statement.{statement}

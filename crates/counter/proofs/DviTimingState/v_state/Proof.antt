@@ -1,6 +1,6 @@
 -- `counter::DviTimingState::v_state` meets its contract.
 use mathlib.Core.Path.{sym, ap, _∙_}
-use Rattle.timing.proofs.Upward.{answers, hands-on}
+use Rattle.refusal.proofs.Upward.{answers, hands-on}
 use Rattle.counter.specs.declared.VState.the-variants.{State}
 use borrow.Author.Needs.{needs}
 use Rattle.counter.proofs.DviTimingState.v_state.Statement.{statement}

@@ -3,7 +3,7 @@ use mathlib.Core.Path.{sym, _∙_}
 use Rattle.refusal.specs.declared.Refusal.the-variants.{TimingRange}
 use Rattle.timing.specs.Sync.{polarityAsks}
 use Rattle.timing.specs.Timing.{rangeAsks}
-use Rattle.timing.proofs.Upward.{returned, continued, passes, fails}
+use Rattle.refusal.proofs.Upward.{returned, continued, passes, fails}
 use borrow.Author.Needs.{needs}
 use Rattle.timing.proofs.DviTiming.checked.Statement.{statement}
 use Rattle.timing.proofs.DviTiming.checked.Tie as tie

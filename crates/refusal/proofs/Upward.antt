@@ -28,6 +28,9 @@ fails r e = ap (λ (t : Bool). verdict (ask t r ∷ [])) (sym e)
 pub held : (t : Bool) (r : Refusal) (qs : List Ask) → verdict (ask t r ∷ qs) ≡ Fine → (t ≡ true) × (verdict qs ≡ Fine)
 held true r qs e = (refl, e)
 held false r qs e = let z : _≡_ {A = ℕ} 0 1 = cc in absurd (omega arith)
+
+pub passed : (q : Ask) (qs : List Ask) → verdict (q ∷ qs) ≡ Fine → (q .holds ≡ true) × (verdict qs ≡ Fine)
+passed q qs = held (q .holds) (q .otherwise) qs
 
 -- nothing is refused and yet something is
 pub never : {v : Verdict} {r : Refusal} → v ≡ Fine → v ≡ Refused r → ⊥
@@ -52,6 +55,6 @@ module _ {A : Type 0} {v w : Verdict} (e : v ≡ w) where
 pub both-fine : (qs ps : List Ask) → verdict (qs ++ ps) ≡ Fine → (verdict qs ≡ Fine) × (verdict ps ≡ Fine)
 both-fine [] ps e = (refl, e)
 both-fine (q ∷ qs) ps e =
-    let h = held (q .holds) (q .otherwise) (qs ++ ps) e in
+    let h = passed q (qs ++ ps) e in
     let r = both-fine qs ps (h .1) in
     (ap (λ (t : Bool). unless t (q .otherwise) (verdict qs)) (h .0) ∙ r .0, r .1)
