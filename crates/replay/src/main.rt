@@ -1,4 +1,10 @@
 // The original's answers on standard input, one case a line, each computed anew: how many of each kind agree, and where the first that differs stands.
+mod lines;
+mod numbers;
+mod packets;
+mod symbols;
+mod text;
+
 use libc::STDIN_FILENO;
 use libc::STDOUT_FILENO;
 ghost use mathlib.Core.Path.{_≡_};
@@ -11,30 +17,30 @@ const KINDS: usize = 24;
 // Whether ours answers what stands in a case of this kind.
 fn agrees(kind: usize, c: &[u8]) -> bool {
     match kind {
-        0 => replay_symbols::symbol(c),
-        1 => replay_symbols::control(c),
-        2 => replay_symbols::joined(c),
-        3 => replay_symbols::pair(c),
-        4 => replay_symbols::balanced(c),
-        5 => replay_symbols::approx(c),
-        6 => replay_symbols::row(c),
-        7 => replay_packets::parity(c),
-        8 => replay_packets::terc4(c),
-        9 => replay_packets::audio(c),
-        10 => replay_packets::clock(c),
-        11 => replay_packets::audio_info(c),
-        12 => replay_packets::avi(c),
-        13 => replay_packets::island(c),
-        14 => replay_lines::vga(c),
-        15 => replay_lines::sync(c),
-        16 => replay_lines::pulse(c),
-        17 => replay_lines::only(c),
-        18 => replay_lines::init(c),
-        19 => replay_lines::island_line(c),
-        20 => replay_lines::empty_line(c),
-        21 => replay_lines::advance(c),
-        22 => replay_lines::state(c),
-        23 => replay_lines::scanline(c),
+        0 => symbols::symbol(c),
+        1 => symbols::control(c),
+        2 => symbols::joined(c),
+        3 => symbols::pair(c),
+        4 => symbols::balanced(c),
+        5 => symbols::approx(c),
+        6 => symbols::row(c),
+        7 => packets::parity(c),
+        8 => packets::terc4(c),
+        9 => packets::audio(c),
+        10 => packets::clock(c),
+        11 => packets::audio_info(c),
+        12 => packets::avi(c),
+        13 => packets::island(c),
+        14 => lines::vga(c),
+        15 => lines::sync(c),
+        16 => lines::pulse(c),
+        17 => lines::only(c),
+        18 => lines::init(c),
+        19 => lines::island_line(c),
+        20 => lines::empty_line(c),
+        21 => lines::advance(c),
+        22 => lines::state(c),
+        23 => lines::scanline(c),
         _ => false,
     }
 }
@@ -48,7 +54,7 @@ enum Outcome {
 
 fn judged(kind: usize, spelled: &[u8]) -> Outcome {
     let mut room = io::buffer();
-    let s = replay_text::read_hex(spelled, &mut room);
+    let s = text::read_hex(spelled, &mut room);
     if !s.whole {
         return Outcome::Malformed;
     }
@@ -91,8 +97,8 @@ fn say_line(number: u64, kind: &[u8], what: &[u8]) {
 
 // Whether the case agrees. One that doesn't is said where it is the first of its kind or can't be read.
 fn case(kinds: &[u8], line: &[u8], number: u64, counts: &mut [u64; 48]) -> bool {
-    let end = replay_text::find(line, 0, b' ');
-    let kind = replay_text::place(kinds, &line[0..end]);
+    let end = text::find(line, 0, b' ');
+    let kind = text::place(kinds, &line[0..end]);
     if KINDS <= kind {
         say_line(number, &line[0..end], b" is no kind of case\n");
         return false;
@@ -160,10 +166,10 @@ fn replay(kinds: &[u8], list: &[u8], counts: &mut [u64; 48]) -> Totals {
     let mut number = 0u64;
     let mut at = 0;
     while at < list.len() {
-        let end = replay_text::find(list, at, b'\n');
+        let end = text::find(list, at, b'\n');
         number = std::num::wrapping_add_u64(number, 1);
         totals = line_done(kinds, &list[at..end], number, totals, counts);
-        at = replay_text::after(list, end);
+        at = text::after(list, end);
     }
     totals
 }
@@ -185,13 +191,13 @@ fn say_kinds(kinds: &[u8], counts: &[u64; 48]) {
     let mut k = 0;
     let mut at = 0;
     while k < KINDS {
-        let end = replay_text::find(kinds, at, b' ');
+        let end = text::find(kinds, at, b' ');
         say_kind(
             &kinds[at..end],
             counted(counts, 2 * k),
             counted(counts, 2 * k + 1),
         );
-        at = replay_text::after(kinds, end);
+        at = text::after(kinds, end);
         k += 1;
     }
 }

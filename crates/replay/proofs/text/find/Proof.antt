@@ -1,30 +1,18 @@
--- `same_words` stays inside the case.
-use Prim.Native.Nat.{_+_, _*_, _≤_, _-_}
+-- `find` stays inside the text.
+use Prim.Native.Nat.{_≤_, _-_}
 use lib.ListN.{length}
 use borrow.Author.Needs.{needs}
-use Rattle.replay_text.proofs.same_words.Statement.{statement}
-use Rattle.replay_text.proofs.same_words.Tie as tie
+use Rattle.replay.proofs.text.find.Statement.{statement}
+use Rattle.replay.proofs.text.find.Tie as tie
 
 abbrev Inv-loop : tie.InvT-loop
-Inv-loop c at words i₀ i = (i ≤ length words) × (at + 4 * length words ≤ length c)
+Inv-loop text at byte i₀ i = (at ≤ i) × (i ≤ length text)
 
 abbrev μ-loop : tie.MeasureT-loop
-μ-loop c at words i₀ i = length words - i
+μ-loop text at byte i₀ i = length text - i
 
 loop-holds : tie.Need-loop-holds Inv-loop μ-loop
 loop-holds c = search needs
-
-mul-four : tie.Need-mul-four Inv-loop μ-loop
-mul-four c = search needs
-
-add-four : tie.Need-add-four Inv-loop μ-loop
-add-four c = search needs
-
-four-requires : tie.Need-four-requires Inv-loop μ-loop
-four-requires c κs = search needs
-
-mul-if1 : tie.Need-mul-if1 Inv-loop μ-loop
-mul-if1 c = search needs
 
 shared-slice-read-if1 : tie.Need-shared-slice-read-if1 Inv-loop μ-loop
 shared-slice-read-if1 c = search needs
@@ -44,17 +32,13 @@ loop-again c = search needs
 returns-2 : tie.Need-returns-2 Inv-loop μ-loop
 returns-2 c = search needs
 
-pub same-words-spec : {M : Type 1} → statement M
-same-words-spec =
+pub find-spec : {M : Type 1} → statement M
+find-spec =
     tie.close
     (tie.spec
     Inv-loop
     μ-loop
     loop-holds
-    mul-four
-    add-four
-    four-requires
-    mul-if1
     shared-slice-read-if1
     returns
     add-i

@@ -4,8 +4,8 @@ use Prim.Native.Nat.{_≤_, _-_}
 use lib.ListN.{length, length-set}
 use lib.Seq.{length-take-le}
 use borrow.Author.Needs.{needs}
-use Rattle.replay_text.proofs.read_hex.Statement.{statement}
-use Rattle.replay_text.proofs.read_hex.Tie as tie
+use Rattle.replay.proofs.text.read_hex.Statement.{statement}
+use Rattle.replay.proofs.text.read_hex.Tie as tie
 
 abbrev Inv-loop : tie.InvT-loop
 Inv-loop text out₀ i₀ n₀ out i n = (i ≤ length text) × (n ≤ length out) × (length out ≡ length out₀)

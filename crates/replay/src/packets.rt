@@ -1,13 +1,13 @@
 // Cases of data_island.rs: whether ours answers what stands in the case. A case of another length agrees with nothing.
+use crate::numbers::counted;
+use crate::numbers::four;
+use crate::numbers::same_words;
+use crate::numbers::signed_two;
+use crate::numbers::two;
+use crate::numbers::wide;
+use crate::text::same;
 use audio::FrameCount;
 use refusal::Verdict;
-use replay_text::counted;
-use replay_text::four;
-use replay_text::same;
-use replay_text::same_words;
-use replay_text::signed_two;
-use replay_text::two;
-use replay_text::wide;
 use terc4::Terc4;
 ghost use Prim.Native.Nat.{_≤_};
 ghost use lib.ListN.{length};

@@ -2,8 +2,8 @@
 use Prim.Native.Nat.{_≤_, _-_}
 use lib.ListN.{length}
 use borrow.Author.Needs.{needs}
-use Rattle.replay_text.proofs.place.Statement.{statement}
-use Rattle.replay_text.proofs.place.Tie as tie
+use Rattle.replay.proofs.text.place.Statement.{statement}
+use Rattle.replay.proofs.text.place.Tie as tie
 
 abbrev Inv-loop : tie.InvT-loop
 Inv-loop words word at₀ k₀ at k = (k ≤ at) × (at ≤ length words)

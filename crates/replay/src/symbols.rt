@@ -1,8 +1,8 @@
 // Cases of tmds.rs: whether ours answers what stands in the case. A case of another length agrees with nothing.
-use replay_text::four;
-use replay_text::same_symbols;
-use replay_text::signed;
-use replay_text::two;
+use crate::numbers::four;
+use crate::numbers::same_symbols;
+use crate::numbers::signed;
+use crate::numbers::two;
 use row::RowEncoded;
 use symbol::Encoded;
 use symbol::Joined;

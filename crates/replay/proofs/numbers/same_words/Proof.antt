@@ -1,27 +1,33 @@
--- `same_bytes` stays inside both.
+-- `same_words` stays inside the case.
 use Prim.Native.Nat.{_+_, _*_, _≤_, _-_}
 use lib.ListN.{length}
 use borrow.Author.Needs.{needs}
-use Rattle.replay_text.proofs.same_bytes.Statement.{statement}
-use Rattle.replay_text.proofs.same_bytes.Tie as tie
+use Rattle.replay.proofs.numbers.same_words.Statement.{statement}
+use Rattle.replay.proofs.numbers.same_words.Tie as tie
 
 abbrev Inv-loop : tie.InvT-loop
-Inv-loop text at bytes i₀ i = (i ≤ length bytes) × (at + length bytes ≤ length text)
+Inv-loop c at words i₀ i = (i ≤ length words) × (at + 4 * length words ≤ length c)
 
 abbrev μ-loop : tie.MeasureT-loop
-μ-loop text at bytes i₀ i = length bytes - i
+μ-loop c at words i₀ i = length words - i
 
 loop-holds : tie.Need-loop-holds Inv-loop μ-loop
 loop-holds c = search needs
 
-add-if1 : tie.Need-add-if1 Inv-loop μ-loop
-add-if1 c = search needs
+mul-four : tie.Need-mul-four Inv-loop μ-loop
+mul-four c = search needs
+
+add-four : tie.Need-add-four Inv-loop μ-loop
+add-four c = search needs
+
+four-requires : tie.Need-four-requires Inv-loop μ-loop
+four-requires c κs = search needs
+
+mul-if1 : tie.Need-mul-if1 Inv-loop μ-loop
+mul-if1 c = search needs
 
 shared-slice-read-if1 : tie.Need-shared-slice-read-if1 Inv-loop μ-loop
 shared-slice-read-if1 c = search needs
-
-shared-slice-read-if1-2 : tie.Need-shared-slice-read-if1-2 Inv-loop μ-loop
-shared-slice-read-if1-2 c = search needs
 
 returns : tie.Need-returns Inv-loop μ-loop
 returns c = search needs
@@ -38,16 +44,18 @@ loop-again c = search needs
 returns-2 : tie.Need-returns-2 Inv-loop μ-loop
 returns-2 c = search needs
 
-pub same-bytes-spec : {M : Type 1} → statement M
-same-bytes-spec =
+pub same-words-spec : {M : Type 1} → statement M
+same-words-spec =
     tie.close
     (tie.spec
     Inv-loop
     μ-loop
     loop-holds
-    add-if1
+    mul-four
+    add-four
+    four-requires
+    mul-if1
     shared-slice-read-if1
-    shared-slice-read-if1-2
     returns
     add-i
     loop-less

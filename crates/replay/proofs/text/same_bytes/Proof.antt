@@ -1,33 +1,27 @@
--- `same_symbols` stays inside the case.
+-- `same_bytes` stays inside both.
 use Prim.Native.Nat.{_+_, _*_, _≤_, _-_}
 use lib.ListN.{length}
 use borrow.Author.Needs.{needs}
-use Rattle.replay_text.proofs.same_symbols.Statement.{statement}
-use Rattle.replay_text.proofs.same_symbols.Tie as tie
+use Rattle.replay.proofs.text.same_bytes.Statement.{statement}
+use Rattle.replay.proofs.text.same_bytes.Tie as tie
 
 abbrev Inv-loop : tie.InvT-loop
-Inv-loop c at symbols i₀ i = (i ≤ length symbols) × (at + 2 * length symbols ≤ length c)
+Inv-loop text at bytes i₀ i = (i ≤ length bytes) × (at + length bytes ≤ length text)
 
 abbrev μ-loop : tie.MeasureT-loop
-μ-loop c at symbols i₀ i = length symbols - i
+μ-loop text at bytes i₀ i = length bytes - i
 
 loop-holds : tie.Need-loop-holds Inv-loop μ-loop
 loop-holds c = search needs
 
-mul-two : tie.Need-mul-two Inv-loop μ-loop
-mul-two c = search needs
-
-add-two : tie.Need-add-two Inv-loop μ-loop
-add-two c = search needs
-
-two-requires : tie.Need-two-requires Inv-loop μ-loop
-two-requires c κs = search needs
-
-mul-if1 : tie.Need-mul-if1 Inv-loop μ-loop
-mul-if1 c = search needs
+add-if1 : tie.Need-add-if1 Inv-loop μ-loop
+add-if1 c = search needs
 
 shared-slice-read-if1 : tie.Need-shared-slice-read-if1 Inv-loop μ-loop
 shared-slice-read-if1 c = search needs
+
+shared-slice-read-if1-2 : tie.Need-shared-slice-read-if1-2 Inv-loop μ-loop
+shared-slice-read-if1-2 c = search needs
 
 returns : tie.Need-returns Inv-loop μ-loop
 returns c = search needs
@@ -44,18 +38,16 @@ loop-again c = search needs
 returns-2 : tie.Need-returns-2 Inv-loop μ-loop
 returns-2 c = search needs
 
-pub same-symbols-spec : {M : Type 1} → statement M
-same-symbols-spec =
+pub same-bytes-spec : {M : Type 1} → statement M
+same-bytes-spec =
     tie.close
     (tie.spec
     Inv-loop
     μ-loop
     loop-holds
-    mul-two
-    add-two
-    two-requires
-    mul-if1
+    add-if1
     shared-slice-read-if1
+    shared-slice-read-if1-2
     returns
     add-i
     loop-less

@@ -1,12 +1,12 @@
 // Cases of timing.rs: whether ours answers what stands in the case. A case of another length agrees with nothing. A timing is 18 bytes.
+use crate::numbers::four;
+use crate::numbers::same_words;
+use crate::numbers::two;
 use counter::Advanced;
 use counter::DviTimingState;
 use counter::Scanline;
 use counter::VState;
 use refusal::Verdict;
-use replay_text::four;
-use replay_text::same_words;
-use replay_text::two;
 use timing::DviTiming;
 use timing::SyncWord;
 use timing::VGA_TIMING;
