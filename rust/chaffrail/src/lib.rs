@@ -1,17 +1,19 @@
 //! Chaffrail's proved functions for HDMI, as safe Rust.
 //!
-//! Every input gets an answer. A refused call changes nothing that it was lent.
+//! Every input gets an answer. A refused call changes nothing that it was lent. Nothing here needs more than `core`.
 //!
 //! ```
 //! // A row in two pieces: the discrepancy that the first leaves is where the second begins.
 //! let mut symbols = [0; 4];
-//! let d = chaffrail::encode_row(0, &[0x00, 0x00], &mut symbols)?;
+//! let d = chaffrail::encode_row(0, &[0x00], &mut symbols[..2])?;
+//! let d = chaffrail::encode_row(d, &[0x00], &mut symbols[2..])?;
 //! assert_eq!(symbols, [0x00, 0x01, 0xff, 0x03]); // 0x100 and 0x3ff, low byte first
 //! let mut bytes = [0; 2];
 //! chaffrail::read_row(&symbols, &mut bytes)?;
 //! assert_eq!((bytes, d), ([0x00, 0x00], 1));
 //! # Ok::<(), chaffrail::Refusal>(())
 //! ```
+#![no_std]
 
 pub mod raw;
 
@@ -83,13 +85,13 @@ const KINDS: [Kind; 17] = [
     Kind::SubpacketParity,
 ];
 
-impl std::fmt::Display for Refusal {
-    fn fmt(&self, f: &mut std::fmt::Formatter<'_>) -> std::fmt::Result {
+impl core::fmt::Display for Refusal {
+    fn fmt(&self, f: &mut core::fmt::Formatter<'_>) -> core::fmt::Result {
         write!(f, "refused with {} ({:?}) at {}", self.kind as u32, self.kind, self.place)
     }
 }
 
-impl std::error::Error for Refusal {}
+impl core::error::Error for Refusal {}
 
 #[inline]
 fn told(a: Answer) -> Result<Answer, Refusal> {
