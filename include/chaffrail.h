@@ -1,8 +1,11 @@
 /* Chaffrail: proved functions that put pixels, audio and control on an HDMI cable, and readers for what they write.
  *
- * Every input gets an answer. A refused call writes to no lent buffer. A buffer crosses as a pointer and a length in bytes; it may be empty, and
- * then its pointer is not read, but it is not null. Two buffers of one call do not overlap. What is wider than a byte crosses as bytes, the low
- * byte first: a symbol as two, a word of three lanes as four.
+ * Every input gets an answer. A refused call writes to no lent buffer. A buffer crosses as a pointer and a length in bytes; where the length is 0 its
+ * pointer is not looked at. Two buffers of one call do not overlap. What is wider than a byte crosses as bytes, the low byte first: a symbol as two, a
+ * word of three lanes as four. A buffer may lie at any address.
+ *
+ * Nothing is kept between calls and nothing is shared, so any thread, core or interrupt may call, each with buffers of its own. On a Cortex-M33 no call
+ * needs more than 784 bytes of stack, and most need less than 64; docs/BENCHMARKS.md has each function's.
  *
  * A whole example, include/example.c:
  *
@@ -32,6 +35,9 @@
 #ifndef CHAFFRAIL_H
 #define CHAFFRAIL_H
 
+/* The interface: another number whenever a signature or a struct changes. */
+#define CHAFFRAIL_INTERFACE 1
+
 #include <stddef.h>
 #include <stdint.h>
 
@@ -59,6 +65,44 @@ enum chaffrail_refusal {
     CHAFFRAIL_SYNC_BITS = 15,        /* lane 0's marker or sync bits are wrong; the place is the word's index */
     CHAFFRAIL_HEADER_PARITY = 16,    /* the header's parity is wrong */
     CHAFFRAIL_SUBPACKET_PARITY = 17  /* a subpacket's parity is wrong; the place is the subpacket */
+};
+
+/* A refusal in words, for a log. */
+static inline const char *chaffrail_refusal_text(uint32_t refusal)
+{
+    switch (refusal) {
+    case CHAFFRAIL_FINE: return "fine";
+    case CHAFFRAIL_LENGTH: return "a buffer has the wrong length";
+    case CHAFFRAIL_DISCREPANCY: return "the discrepancy is outside -4..4";
+    case CHAFFRAIL_SYNC_PAIR: return "the sync pair is above 3";
+    case CHAFFRAIL_UNLISTED: return "a number is none of the listed ones";
+    case CHAFFRAIL_FRAME_COUNT: return "the audio frame count is outside 0..191";
+    case CHAFFRAIL_CLOCK_VALUE: return "CTS or N has more than 20 bits";
+    case CHAFFRAIL_TIMING_RANGE: return "the timing is outside its ranges";
+    case CHAFFRAIL_LINE_COUNTER: return "the line counter is past the last line";
+    case CHAFFRAIL_LINE_OFFSET: return "line counter and offset don't fit 32 bits together";
+    case CHAFFRAIL_UNBALANCED: return "the pair doesn't balance";
+    case CHAFFRAIL_NOT_DATA: return "not a data symbol";
+    case CHAFFRAIL_HIGH_BITS: return "an island word has a high bit set";
+    case CHAFFRAIL_GUARD_WORD: return "a guard word is wrong";
+    case CHAFFRAIL_NOT_TERC4: return "not a TERC4 symbol";
+    case CHAFFRAIL_SYNC_BITS: return "lane 0's marker or sync bits are wrong";
+    case CHAFFRAIL_HEADER_PARITY: return "the header's parity is wrong";
+    case CHAFFRAIL_SUBPACKET_PARITY: return "a subpacket's parity is wrong";
+    default: return "no refusal has this number";
+    }
+}
+
+/* Lengths of buffers, in bytes. */
+enum chaffrail_length {
+    CHAFFRAIL_ROW_MOST = 4096,        /* a row's bytes in one call; its symbols take twice as many */
+    CHAFFRAIL_PACKET_LENGTH = 36,
+    CHAFFRAIL_SAMPLES_MOST = 16,      /* four frames of two samples */
+    CHAFFRAIL_ISLAND_LENGTH = 144,
+    CHAFFRAIL_SYNC_PULSE_LENGTH = 60,
+    CHAFFRAIL_SYNC_ONLY_LENGTH = 44,
+    CHAFFRAIL_ISLAND_LINE_LENGTH = 224,
+    CHAFFRAIL_COUNTER_LENGTH = 4
 };
 
 /* What every function answers, but for chaffrail_vga_timing. */
@@ -119,7 +163,22 @@ chaffrail_answer chaffrail_set_audio_clock_regeneration(uint8_t *packet, size_t 
 /* Audio info: two channels of 16 bits; 48000 and 44100 are named in it, any other rate isn't. Refusal: 1. */
 chaffrail_answer chaffrail_set_audio_info_frame(uint8_t *packet, size_t packet_len, uint32_t rate);
 
-/* AVI info from the numbers of its fields: s, y, m and q 0..2; c 0..3; r 0 (no data) or 8..11; v 1 or 2. Refusals: 1; 4. */
+/* The fields of AVI info, by CEA-861-D's letters. */
+enum chaffrail_scan { CHAFFRAIL_S_NO_DATA = 0, CHAFFRAIL_S_OVERSCAN = 1, CHAFFRAIL_S_UNDERSCAN = 2 };
+enum chaffrail_pixel_format { CHAFFRAIL_Y_RGB = 0, CHAFFRAIL_Y_YCBCR_422 = 1, CHAFFRAIL_Y_YCBCR_444 = 2 };
+enum chaffrail_colorimetry { CHAFFRAIL_C_NO_DATA = 0, CHAFFRAIL_C_ITU_601 = 1, CHAFFRAIL_C_ITU_709 = 2, CHAFFRAIL_C_EXTENDED = 3 };
+enum chaffrail_picture_aspect { CHAFFRAIL_M_NO_DATA = 0, CHAFFRAIL_M_4_3 = 1, CHAFFRAIL_M_16_9 = 2 };
+enum chaffrail_active_aspect {
+    CHAFFRAIL_R_NO_DATA = 0,
+    CHAFFRAIL_R_AS_PICTURE = 8,
+    CHAFFRAIL_R_4_3 = 9,
+    CHAFFRAIL_R_16_9 = 10,
+    CHAFFRAIL_R_14_9 = 11
+};
+enum chaffrail_quantization { CHAFFRAIL_Q_DEFAULT = 0, CHAFFRAIL_Q_LIMITED = 1, CHAFFRAIL_Q_FULL = 2 };
+enum chaffrail_video_code { CHAFFRAIL_V_640_480_60 = 1, CHAFFRAIL_V_720_480_60 = 2 };
+
+/* AVI info from the numbers of its fields, those above. Refusals: 1; 4. */
 chaffrail_answer chaffrail_set_avi_info_frame(uint8_t *packet, size_t packet_len, uint32_t s, uint32_t y, uint32_t c, uint32_t m, uint32_t r,
                                               uint32_t q, uint32_t v);
 
@@ -132,7 +191,9 @@ chaffrail_answer chaffrail_encode_island(uint8_t hv, const uint8_t *packet, size
  * first subpacket whose parity is wrong. */
 chaffrail_answer chaffrail_read_island(const uint8_t *words, size_t words_len, uint8_t *packet, size_t packet_len);
 
-/* A display mode. Polarities are 0 (negative) or 1 (positive), the bit clock is in kilohertz. Ranges: front porch 9..4095, sync 37..4095, back
+enum chaffrail_polarity { CHAFFRAIL_NEGATIVE = 0, CHAFFRAIL_POSITIVE = 1 };
+
+/* A display mode. Polarities are those above, the bit clock is in kilohertz. Ranges: front porch 9..4095, sync 37..4095, back
  * porch 11..4095, active pixels 9..4095, each vertical number 1..4095. */
 typedef struct chaffrail_timing {
     uint32_t h_front_porch;
@@ -175,8 +236,11 @@ chaffrail_answer chaffrail_make_sync_line_only(chaffrail_timing timing, uint8_t 
  * 4 for a polarity; 7. */
 chaffrail_answer chaffrail_init_data_island(chaffrail_timing timing, uint8_t *line, size_t line_len);
 
-/* The other 50 words of an island line, with one packet of 36 bytes. States: 0 front porch, 1 sync, 2 back porch, 3 active. Refusals: 1 unless
- * line_len is 224 and packet_len 36; 4 for a state or a polarity; 7. */
+/* What a line is, from the top of a frame. */
+enum chaffrail_line_state { CHAFFRAIL_FRONT_PORCH = 0, CHAFFRAIL_SYNC = 1, CHAFFRAIL_BACK_PORCH = 2, CHAFFRAIL_ACTIVE = 3 };
+
+/* The other 50 words of an island line, with one packet of 36 bytes; state is one of those above. Refusals: 1 unless line_len is 224 and packet_len 36; 4
+ * for a state or a polarity; 7. */
 chaffrail_answer chaffrail_encode_data_island(chaffrail_timing timing, uint8_t *line, size_t line_len, uint8_t state, const uint8_t *packet,
                                               size_t packet_len);
 
@@ -193,7 +257,7 @@ chaffrail_answer chaffrail_counter_advance(uint32_t counter, chaffrail_timing ti
  * 1 unless counter_len is 4. */
 chaffrail_answer chaffrail_counter_advance_in_place(uint8_t *counter, size_t counter_len, chaffrail_timing timing);
 
-/* What the line is. Value: 0 front porch, 1 sync, 2 back porch, 3 active; carry: the counter. */
+/* What the line is. Value: a chaffrail_line_state; carry: the counter. */
 chaffrail_answer chaffrail_counter_state(uint32_t counter, chaffrail_timing timing);
 
 /* The value for a line that shows no row of pixels. */
