@@ -2,16 +2,15 @@
 -- DVI 1.0 gives the uncut row; cut anew anywhere they read back; and every stretch of them is balanced.
 use mathlib.Core.Path.{_≡_, refl, sym, ap, _∙_}
 use mathlib.Core.Bool.{true, false, not}
-use mathlib.Core.List.{List, [], _∷_, _++_, map, map-append}
-use Prim.Native.Nat.{ℕ, zero, suc, _+_, _*_, _≤_, _<_}
+use mathlib.Core.List.{List, [], _∷_, _++_, map-append}
+use Prim.Native.Nat.{ℕ, _+_, _*_, _≤_, _<_}
 use native.Mathlib.Omega.{arith}
 use borrow.Author.Tests.{le-leb, eq-eqb}
-use lib.Dec.{T, leb, eqb}
+use lib.Dec.{T}
 use lib.IntN.{ℤ, pos, _*ℤ_}
 use lib.ListN.{length, take, drop, getD, length-append, List·getD-append}
 use lib.Seq.{getD-append-add}
 use Rattle.laws.specs.Bytes.{Bytes}
-use Rattle.laws.specs.Search.{first}
 use Rattle.laws.proofs.Searching.{none}
 use Rattle.laws.proofs.Truth.{T-true}
 use Rattle.dvi.specs.Decoder.{byteOf, isData}
@@ -70,20 +69,20 @@ one-outcome (pieces.Encoded.call {d} {e} {f} {p} {ps} {ss} a r) (pieces.Encoded.
 -- ---- reading, cut anew anywhere
 
 -- every symbol of a row is a data symbol
-abbrev AllData : List ℕ → Type 0
+abbrev pub AllData : List ℕ → Type 0
 AllData ss = (i : ℕ) → i < length ss → T (isData (getD ss i 0))
 
-data-left : (xs ys : List ℕ) → AllData (xs ++ ys) → AllData xs
+pub data-left : (xs ys : List ℕ) → AllData (xs ++ ys) → AllData xs
 data-left xs ys a i l =
     let k : i < length (xs ++ ys) = simp length-append (omega arith) in
     rw (List·getD-append xs ys 0 i l) at (a i k)
 
-data-right : (xs ys : List ℕ) → AllData (xs ++ ys) → AllData ys
+pub data-right : (xs ys : List ℕ) → AllData (xs ++ ys) → AllData ys
 data-right xs ys a i l =
     let k : length xs + i < length (xs ++ ys) = simp length-append (omega arith) in
     rw (getD-append-add xs ys i 0) at (a (length xs + i) k)
 
-none-bad : (ss : List ℕ) → AllData ss → firstBad ss ≡ length ss
+pub none-bad : (ss : List ℕ) → AllData ss → firstBad ss ≡ length ss
 none-bad ss a =
     let passed : (i : ℕ) → 0 ≤ i → i < 0 + length ss → not (isData (getD ss i 0)) ≡ false =
     λ i l u. simp (T-true {b = isData (getD ss i 0)} (a i (omega arith))) in

@@ -8,10 +8,10 @@ cast-result : tie.Need-cast-result
 cast-result c = search needs
 
 sub-result : tie.Need-sub-result
-sub-result c = less-four-fits _ (c .pre .small)
+sub-result c = less-four-fits _ (c .pre .most)
 
 returns : tie.Need-returns
-returns c = less-four _ (c .pre .small)
+returns c = less-four _ (c .pre .most)
 
 pub ended-spec : {M : Type 1} → statement M
 ended-spec = tie.close (tie.spec cast-result sub-result returns)

@@ -1,7 +1,7 @@
 -- `symbol_at` joins a symbol's two bytes.
 use mathlib.Core.Path.{_∙_}
-use borrow.Author.Needs.{needs}
 use Rattle.row_reader.proofs.Symbols.{symbol-in}
+use borrow.Author.Needs.{needs}
 use Rattle.row_reader.proofs.symbol_at.Statement.{statement}
 use Rattle.row_reader.proofs.symbol_at.Tie as tie
 
@@ -24,7 +24,7 @@ word-requires : tie.Need-word-requires
 word-requires c κs = search needs
 
 returns : tie.Need-returns
-returns c = let z = c .before .before .before .before in c .word .ensures ∙ symbol-in (z .args .lent .now) (z .args .i) (z .pre)
+returns c = let z = c .before .before .before .before in (c .word .ensures .0 ∙ symbol-in (z .args .lent .now) (z .args .i) (z .pre), c .word .ensures .1)
 
 pub symbol-at-spec : {M : Type 1} → statement M
 symbol-at-spec =
