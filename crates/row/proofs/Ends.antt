@@ -37,8 +37,8 @@ module _ (d : ℤ) (h : T (inRange d)) where
       eqZ→eq (unbiased (held (natAbs (lifted d)))) d (each 3 4 (λ d. eqZ (unbiased (held (natAbs (lifted d)))) d) tt d h)
 
 module _ (k : ℕ) (h : k < 20) where
-  pub less-four-fits : SFits w32 (toZ w32 k -ℤ pos 15)
-  less-four-fits = record { sfits = ltb→lt (mag (toZ w32 k -ℤ pos 15)) (2 ^ 31) (below (λ k. ltb (mag (toZ w32 k -ℤ pos 15)) (2 ^ 31)) 20 tt k h) }
+  pub less-fifteen-fits : SFits w32 (toZ w32 k -ℤ pos 15)
+  less-fifteen-fits = record { sfits = ltb→lt (mag (toZ w32 k -ℤ pos 15)) (2 ^ 31) (below (λ k. ltb (mag (toZ w32 k -ℤ pos 15)) (2 ^ 31)) 20 tt k h) }
 
-  pub less-four : read (toZ w32 k -ℤ pos 15) ≡ unbiased k
-  less-four = eqZ→eq (read (toZ w32 k -ℤ pos 15)) (unbiased k) (below (λ k. eqZ (read (toZ w32 k -ℤ pos 15)) (unbiased k)) 20 tt k h)
+  pub less-fifteen : read (toZ w32 k -ℤ pos 15) ≡ unbiased k
+  less-fifteen = eqZ→eq (read (toZ w32 k -ℤ pos 15)) (unbiased k) (below (λ k. eqZ (read (toZ w32 k -ℤ pos 15)) (unbiased k)) 20 tt k h)

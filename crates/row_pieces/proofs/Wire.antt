@@ -1,18 +1,16 @@
 -- The same theorems over the calls in bytes alone: the buffers joined are the bytes of what DVI 1.0 gives the uncut row, and they are cut anew
 -- between any two symbols.
-use mathlib.Core.Path.{_≡_, refl, sym, ap, ap₂, _∙_}
+use mathlib.Core.Path.{_≡_, refl, sym, ap, _∙_}
 use mathlib.Core.Bool.{true}
 use mathlib.Core.List.{List, [], _∷_, _++_}
-use Prim.Native.Nat.{ℕ, zero, suc, _+_, _*_, _/_, _%_, _≤_}
-use native.Mathlib.Nat.{mul-zero, mul-suc, zero-add, suc-add}
+use Prim.Native.Nat.{ℕ, _+_, _*_, _/_, _%_, _≤_}
 use native.Mathlib.Omega.{arith}
 use borrow.Author.Tests.{le-leb, eq-eqb}
 use lib.Dec.{T, eqb}
 use lib.IntN.{ℤ, pos, _*ℤ_}
-use lib.ListN.{length, take, drop, length-append, length-drop}
-use lib.Seq.{take-append-le, drop-append-le}
-use Rattle.laws.specs.Bytes.{Bytes, bytesOf, fromLow, numbersOf}
-use Rattle.laws.proofs.Bytes.{Fit, bytes-append, length-bytes, length-numbers, written-read}
+use lib.ListN.{length, take, drop, length-append}
+use Rattle.laws.specs.Bytes.{Bytes, bytesOf, numbersOf}
+use Rattle.laws.proofs.Bytes.{Fit, bytes-append, numbers-append, length-bytes, length-numbers, written-read}
 use Rattle.laws.proofs.Truth.{T-true}
 use Rattle.dvi.specs.Row.{dviRow, dviCnt, rowSymbols, rowEnd, rowOnes}
 use Rattle.dvi.specs.Symbol.{inRange, nextOf}
@@ -27,22 +25,6 @@ use Rattle.row_pieces.specs.Calls.{Piece, joined, Each}
 use Rattle.row_pieces.specs.Wire.{FitsOut, FitsIn, EncodedBytes, ReadBytes}
 use Rattle.row_pieces.proofs.Calls as calls
 use Rattle.row_pieces.proofs.Calls.{AllData, none-bad, Form}
-
--- ---- numbers of bytes joined
-
-numbers-append : (w m n : ℕ) (xs ys : List ℕ) → length xs ≡ w * m → numbersOf w (m + n) (xs ++ ys) ≡ numbersOf w m xs ++ numbersOf w n ys
-numbers-append w zero n xs ys e =
-    empty xs (e ∙ mul-zero w) ∙ ap (λ (k : ℕ). numbersOf w k ys) (zero-add n)
-  where
-    empty : (xs : List ℕ) → length xs ≡ 0 → numbersOf w (0 + n) (xs ++ ys) ≡ numbersOf w (0 + n) ys
-    empty [] h = refl
-    empty (x ∷ xs) h = absurd (omega (arith, h))
-numbers-append w (suc m) n xs ys e =
-    let long : w ≤ length xs = omega (arith, e, mul-suc w m) in
-    let rest : length (drop w xs) ≡ w * m = length-drop w xs ∙ omega (arith, e, mul-suc w m) in
-    rw (suc-add m n)
-    (ap₂ (λ (a : ℕ) (l : List ℕ). a ∷ l) (ap fromLow (take-append-le w xs ys long))
-    (ap (numbersOf w (m + n)) (drop-append-le w xs ys long) ∙ numbers-append w m n (drop w xs) ys rest))
 
 -- ---- the symbols that the bytes hold
 

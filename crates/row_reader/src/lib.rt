@@ -78,7 +78,7 @@ pub fn read_row(symbols: &[u16], out: &mut [u8]) -> Verdict
 
 // ---- the same rows in bytes alone, a symbol as two, low byte first, with no second buffer
 fn word(low: u8, high: u8) -> u32
-    ensures { λ r. ⌜ (r ≡ low + 256 * high) × (r < 65536) ⌝ }
+    ensures { λ r. ⌜ r ≡ low + 256 * high ⌝ }
 {
     (low as u32) + 256 * (high as u32)
 }
@@ -86,7 +86,7 @@ fn word(low: u8, high: u8) -> u32
 // Symbol i of a buffer of bytes.
 fn symbol_at(lent: &[u8], i: usize) -> u32
     requires { ⌜ i < length (now lent) / 2 ⌝ }
-    ensures { λ r. ⌜ (r ≡ getD (symbolsIn (now (lent .entry))) i 0) × (r < 65536) ⌝ }
+    ensures { λ r. ⌜ r ≡ getD (symbolsIn (now (lent .entry))) i 0 ⌝ }
 {
     word(lent[2 * i], lent[2 * i + 1])
 }

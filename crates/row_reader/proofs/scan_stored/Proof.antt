@@ -43,7 +43,7 @@ is-data-requires c κs = search needs
 
 -- what was asked of the symbol
 asked : (c : tie.After-is-data Inv-loop μ-loop) → isData (getD (symbolsIn (c .before .before .before .before .before .before .args .lent .now)) (c .before .before .before .loop .i) 0) ≡ c .is-data .result
-asked c = sym (c .is-data .ensures ∙ ap isData (c .before .symbol-at .ensures .0))
+asked c = sym (c .is-data .ensures ∙ ap isData (c .before .symbol-at .ensures))
 
 returns : tie.Need-returns Inv-loop μ-loop
 returns c =

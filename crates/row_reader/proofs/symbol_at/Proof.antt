@@ -24,7 +24,7 @@ word-requires : tie.Need-word-requires
 word-requires c κs = search needs
 
 returns : tie.Need-returns
-returns c = let z = c .before .before .before .before in (c .word .ensures .0 ∙ symbol-in (z .args .lent .now) (z .args .i) (z .pre), c .word .ensures .1)
+returns c = let z = c .before .before .before .before in c .word .ensures ∙ symbol-in (z .args .lent .now) (z .args .i) (z .pre)
 
 pub symbol-at-spec : {M : Type 1} → statement M
 symbol-at-spec =

@@ -1,9 +1,9 @@
 -- `unpack_stored` writes the bytes of a scanned row.
 use mathlib.Core.Path.{_≡_, sym, ap, _∙_}
-use Prim.Native.Nat.{ℕ, _+_, _-_, _*_, _/_, _%_, _≤_, _<_}
+use Prim.Native.Nat.{ℕ, _+_, _-_, _*_, _/_, _%_, _≤_}
 use native.Mathlib.Omega.{arith}
 use borrow.Author.Needs.{needs}
-use lib.ListN.{length, getD, length-set}
+use lib.ListN.{length, length-set}
 use Rattle.laws.proofs.Bytes.{length-numbers}
 use Rattle.dvi.specs.Decoder.{byteOf}
 use Rattle.row_reader.specs.Wire.{symbolsIn}
@@ -103,7 +103,7 @@ returns c =
     let lent = z .args .lent .now in
     let n : length (symbolsIn lent) ≡ length lent / 2 = length-numbers 2 _ lent in
     let at : 2 * l .k ≡ 2 * (length lent / 4) = omega arith in
-    let s = c .before .symbol-at .ensures .0 in
+    let s = c .before .symbol-at .ensures in
     let low = data-low _ (z .pre .2 (2 * (length lent / 4)) (omega arith)) in
     let u = unpacked-more _ (l .out) (2 * (length lent / 4)) _ (omega arith) (omega arith) (c .byte-of2 .ensures ∙ ap (λ (x : ℕ). byteOf (x % 1024)) s ∙ ap byteOf low) (rw at at (l .inv .3)) in
     unpacked-all _ _ _ (omega arith) (simp length-set (l .inv .2 ∙ sym n)) u
