@@ -1,3 +1,5 @@
 pub mod Counting
 pub mod Decoding
 pub mod Encoding
+pub mod Maps
+pub mod Words

@@ -19,7 +19,7 @@ use Rattle.laws.proofs.Xor.{on-bit}
 use Rattle.dvi.specs.Lanes.{lanes}
 use Rattle.hdmi.specs.Terc4.{terc4}
 use Rattle.hdmi.specs.Island.{headerBit, subpacketBit, marker, across, dataWord}
-use Rattle.two_lanes.specs.Pairs.{evens, odds}
+use Rattle.island.specs.Pairs.{evens, odds}
 use Rattle.island.specs.Words.{transposed, Bytes, Subpacket, Pairs, Header, laneSymbol, wordFrom}
 
 -- ---- the transposition

@@ -1,2 +1,3 @@
 pub mod Encode
+pub mod Pairs
 pub mod Words

@@ -8,7 +8,7 @@ use Rattle.laws.specs.Bit.{bit}
 use Rattle.dvi.specs.Lanes.{lanes}
 use Rattle.hdmi.specs.Terc4.{terc4}
 use Rattle.hdmi.specs.Island.{headerBit, subpacketBit, marker}
-use Rattle.two_lanes.specs.Pairs.{evens, odds}
+use Rattle.island.specs.Pairs.{evens, odds}
 
 -- bit k of a transposed word of four bytes: pair j of byte s becomes pair s of byte j
 abbrev pub transposed : ℕ → ℕ

@@ -9,7 +9,12 @@ ghost use Rattle.laws.proofs.Tables.{made};
 ghost use Rattle.refusal.specs.Verdict.{verdict, kept};
 ghost use Rattle.hdmi.specs.Island.{guardWord, marker, island};
 ghost use Rattle.island.specs.Encode.{encodeAsks};
+ghost use Rattle.island.specs.Pairs.{twoLanes};
 ghost use Rattle.island.specs.Words.{transposed, Bytes, Subpacket, Pairs, Rows, Header, merged, laneSymbol, wordFrom};
+
+mod packed;
+
+use packed::PACKED;
 use refusal::Refusal;
 use refusal::Verdict;
 use symbol::Tmds3;
@@ -115,12 +120,20 @@ fn which(h: usize, k: usize) -> usize
 }
 
 // Character 4 i + j, from the header's bits behind the first 4 i. Here and below hv, the sync pair of lane 0's symbols, is named for the statement.
-fn data_word(hv: usize, zero: &[u16; 4], bits: u32, pairs: u64, i: usize, j: usize) -> Tmds3
-    requires { ⌜ (hv < 4) × (now zero ≡ made (laneSymbol hv) 0 4) × (i < 8) × (j < 4) ⌝ }
+fn data_word(
+    hv: usize,
+    zero: &[u16; 4],
+    packed: &[u32; 256],
+    bits: u32,
+    pairs: u64,
+    i: usize,
+    j: usize,
+) -> Tmds3
+    requires { ⌜ (hv < 4) × (now zero ≡ made (laneSymbol hv) 0 4) × (i < 8) × (j < 4) × (now packed ≡ made twoLanes 0 256) ⌝ }
     ensures { λ r. ⌜ r .0 ≡ wordFrom hv bits pairs i j ⌝ }
 {
     let n = which(((bits >> j) % 2) as usize, 4 * i + j);
-    Tmds3((zero[n] as u32) | two_lanes::word((pairs % 256) as u8))
+    Tmds3((zero[n] as u32) | packed[(pairs % 256) as usize])
 }
 
 // The guard word of a sync pair.
@@ -150,30 +163,30 @@ fn next_rows(rows: [u64; 4]) -> [u64; 4]
     [rows[0] >> 8, rows[1] >> 8, rows[2] >> 8, rows[3] >> 8]
 }
 
-// Characters 4 i to 4 i + 3, where the words before them stand; the packet is named for the statement. `data_word` is called in one place: a table that
-// is a match is inlined once.
+// Characters 4 i to 4 i + 3, where the words before them stand; the packet is named for the statement.
 fn put_four(
     hv: usize,
     zero: &[u16; 4],
+    packed: &[u32; 256],
     packet: &[u8],
     header: u32,
     rows: &[u64; 4],
     i: usize,
     words: &mut [u32],
 )
-    requires { ⌜ (hv < 4) × (now zero ≡ made (laneSymbol hv) 0 4) × Header (now packet) i header × Rows (now packet) i (now rows) × (i < 8) × (length (now words) ≡ 36) × Front (island hv (now packet)) (2 + 4 * i) (now words) ⌝ }
+    requires { ⌜ (hv < 4) × (now zero ≡ made (laneSymbol hv) 0 4) × Header (now packet) i header × Rows (now packet) i (now rows) × (i < 8) × (length (now words) ≡ 36) × Front (island hv (now packet)) (2 + 4 * i) (now words) × (now packed ≡ made twoLanes 0 256) ⌝ }
     ensures { λ _. ⌜ Front (island hv (now (packet .entry))) (2 + 4 * (i + 1)) (now (words .exit)) ⌝ }
 {
     let mut j = 0;
     while j < 4 {
-        words[2 + 4 * i + j] = data_word(hv, zero, header, rows[j], i, j).0;
+        words[2 + 4 * i + j] = data_word(hv, zero, packed, header, rows[j], i, j).0;
         j += 1;
     }
 }
 
 // The whole island, four characters a turn.
-fn fill(hv: usize, zero: &[u16; 4], packet: &[u8], words: &mut [u32])
-    requires { ⌜ (hv < 4) × (now zero ≡ made (laneSymbol hv) 0 4) × (length (now packet) ≡ 36) × (length (now words) ≡ 36) ⌝ }
+fn fill(hv: usize, zero: &[u16; 4], packed: &[u32; 256], packet: &[u8], words: &mut [u32])
+    requires { ⌜ (hv < 4) × (now zero ≡ made (laneSymbol hv) 0 4) × (length (now packet) ≡ 36) × (length (now words) ≡ 36) × (now packed ≡ made twoLanes 0 256) ⌝ }
     ensures { λ _. ⌜ now (words .exit) ≡ island hv (now (packet .entry)) ⌝ }
 {
     let g = guard(hv, zero).0;
@@ -183,7 +196,7 @@ fn fill(hv: usize, zero: &[u16; 4], packet: &[u8], words: &mut [u32])
     words[1] = g;
     let mut i = 0;
     while i < 8 {
-        put_four(hv, zero, packet, header, &rows, i, words);
+        put_four(hv, zero, packed, packet, header, &rows, i, words);
         header = header >> 4;
         rows = next_rows(rows);
         i += 1;
@@ -207,6 +220,6 @@ pub fn encode(hv: u8, packet: &[u8], words: &mut [u32]) -> Verdict
         return Verdict::Refused(Refusal::SyncPair);
     }
     let zero = lane_zero(hv as usize);
-    fill(hv as usize, &zero, packet, words);
+    fill(hv as usize, &zero, &PACKED, packet, words);
     Verdict::Fine
 }

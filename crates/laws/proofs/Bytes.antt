@@ -2,11 +2,11 @@
 use mathlib.Core.Path.{_≡_, refl, sym, ap, ap₂, subst, _∙_}
 use mathlib.Core.List.{List, [], _∷_, _++_, append-assoc, append-nil}
 use Prim.Native.Nat.{ℕ, zero, suc, _+_, _*_, _/_, _%_, _^_, _≤_, _<_}
-use native.Mathlib.Nat.{mul-suc, add-comm, mul-zero, pow-suc}
+use native.Mathlib.Nat.{zero-add, suc-add, mul-suc, add-comm, mul-zero, pow-suc}
 use native.Mathlib.Numerals.{add-one}
 use native.Mathlib.Omega.{arith}
 use lib.ListN.{length, take, drop, getD, set, length-append, length-drop}
-use lib.Seq.{sets, sets-eq, take-at, drop-at, drop-drop, drop-cons, length-take-le, take-all}
+use lib.Seq.{sets, sets-eq, take-at, take-append-le, drop-at, drop-append-le, drop-drop, drop-cons, length-take-le, take-all}
 use Rattle.laws.specs.Bytes.{lowFirst, fromLow, bytesOf, numbersOf, Bytes}
 
 pub length-low-first : (w x : ℕ) → length (lowFirst w x) ≡ w
@@ -27,6 +27,21 @@ length-numbers w (suc n) bs = ap suc (length-numbers w n (drop w bs))
 pub bytes-append : (w : ℕ) (xs ys : List ℕ) → bytesOf w (xs ++ ys) ≡ bytesOf w xs ++ bytesOf w ys
 bytes-append w [] ys = refl
 bytes-append w (x ∷ xs) ys = ap (λ (l : List ℕ). lowFirst w x ++ l) (bytes-append w xs ys) ∙ sym (append-assoc (lowFirst w x) (bytesOf w xs) (bytesOf w ys))
+
+-- where the first are whole numbers
+pub numbers-append : (w m n : ℕ) (xs ys : List ℕ) → length xs ≡ w * m → numbersOf w (m + n) (xs ++ ys) ≡ numbersOf w m xs ++ numbersOf w n ys
+numbers-append w zero n xs ys e =
+    empty xs (e ∙ mul-zero w) ∙ ap (λ (k : ℕ). numbersOf w k ys) (zero-add n)
+  where
+    empty : (xs : List ℕ) → length xs ≡ 0 → numbersOf w (0 + n) (xs ++ ys) ≡ numbersOf w (0 + n) ys
+    empty [] h = refl
+    empty (x ∷ xs) h = absurd (omega (arith, h))
+numbers-append w (suc m) n xs ys e =
+    let long : w ≤ length xs = omega (arith, e, mul-suc w m) in
+    let rest : length (drop w xs) ≡ w * m = length-drop w xs ∙ omega (arith, e, mul-suc w m) in
+    rw (suc-add m n)
+    (ap₂ (λ (a : ℕ) (l : List ℕ). a ∷ l) (ap fromLow (take-append-le w xs ys long))
+    (ap (numbersOf w (m + n)) (drop-append-le w xs ys long) ∙ numbers-append w m n (drop w xs) ys rest))
 
 -- number i of the bytes
 pub number-at : (w n : ℕ) (bs : List ℕ) (i : ℕ) → i < n → getD (numbersOf w n bs) i 0 ≡ fromLow (take w (drop (w * i) bs))

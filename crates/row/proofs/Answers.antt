@@ -7,7 +7,6 @@ use Rattle.refusal.specs.declared.Refusal.{Refusal}
 use Rattle.refusal.specs.declared.Verdict.{Verdict}
 use Rattle.refusal.specs.declared.Verdict.the-variants as verdict
 use Rattle.refusal.specs.Verdict.{answered}
-use Rattle.row.specs.declared.RowEncoded.{RowEncoded}
 use Rattle.row.specs.declared.RowEncoded.the-variants.{Done, Refused}
 
 module _ (d e : ℤ) where

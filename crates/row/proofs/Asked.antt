@@ -1,10 +1,10 @@
 -- What is known of a row's arguments once nothing was refused.
 use mathlib.Core.Path.{_≡_}
-use Prim.Native.Nat.{ℕ, _*_, _/_, _%_}
+use Prim.Native.Nat.{ℕ, _*_, _/_, _%_, _≤_}
 use native.Mathlib.Omega.{arith}
-use lib.Dec.{T, leb, eqb, eqb→eq}
+use lib.Dec.{T, leb, eqb, leb→le, eqb→eq}
 use lib.IntN.{ℤ}
-use Rattle.laws.proofs.Truth.{and-right}
+use Rattle.laws.proofs.Truth.{and-left, and-right}
 use Rattle.dvi.specs.Symbol.{inRange}
 use Rattle.refusal.specs.declared.Refusal.the-variants.{Length, Discrepancy}
 use Rattle.refusal.specs.declared.Verdict.the-variants.{Fine}
@@ -17,6 +17,10 @@ module _ (d : ℤ) (row room : ℕ) (fine : verdict (encodeRowAsks d row room) �
   pub same-lengths : room ≡ row
   same-lengths =
       eqb→eq room row (and-right (leb row 4096) (eqb room row) (holds-first (lengthsFit row room) Length (unless (inRange d) Discrepancy Fine) fine))
+
+  pub short-row : row ≤ 4096
+  short-row =
+      leb→le row 4096 (and-left (leb row 4096) (eqb room row) (holds-first (lengthsFit row room) Length (unless (inRange d) Discrepancy Fine) fine))
 
   pub ranged : T (inRange d)
   ranged = holds-first (inRange d) Discrepancy Fine (fine-rest (lengthsFit row room) Length (unless (inRange d) Discrepancy Fine) fine)

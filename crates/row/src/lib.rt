@@ -3,125 +3,77 @@ mod tables;
 
 use refusal::Refusal;
 use refusal::Verdict;
-use tables::SHIFTS;
-use tables::SYMBOLS;
+use tables::WORDS;
 ghost use mathlib.Core.Path.{_≡_};
-ghost use Prim.Native.Nat.{_+_, _*_, _/_, _%_, _<_, _≤_, _^_};
+ghost use Prim.Native.Nat.{_+_, _*_, _<_, _≤_};
 ghost use lib.Dec.{T};
-ghost use lib.IntN.{ℤ};
-ghost use lib.ListN.{length, getD};
+ghost use lib.ListN.{length};
 ghost use lib.Seq.{sets};
 ghost use Rattle.laws.specs.Bytes.{lowFirst, bytesOf};
+ghost use Rattle.laws.proofs.Tables.{made};
 ghost use Rattle.dvi.specs.Symbol.{inRange};
 ghost use Rattle.dvi.specs.Row.{rowSymbols, rowEnd};
 ghost use Rattle.refusal.specs.Verdict.{verdict};
-ghost use Rattle.row_tables.specs.Shift.{held, Field, Rule, unbiased};
-ghost use Rattle.row.specs.Along.{Written, Stored};
+ghost use Rattle.charts.specs.Word.{unbiased, held, Field, Step, half, wordOf};
 ghost use Rattle.row.specs.Answer.{lengthsFit, encodeRowAsks, encodeRowOf, encodeRowOut};
 ghost use Rattle.row.specs.Wire.{encodeBytesOf, encodeBytesOut};
 
-// The byte's word, moved to the field of the discrepancy that x holds.
-fn moved(shifts: &[u64; 256], x: u64, byte: u8) -> u64
-    ensures { λ r. ⌜ r ≡ getD (now (shifts .entry)) byte 0 / 2 ^ (x % 64) ⌝ }
-{
-    shifts[byte as usize] >> (x % 64)
+// One step along a row: the symbol that goes out, and what holds the discrepancy after it.
+struct Stepped {
+    symbol: u16,
+    state: u32,
 }
 
-// The byte's symbol, complemented where the field in x says so: an indexed load, since a jump here would be missed half the time.
-fn picked(symbols: &[u16; 512], x: u64, byte: u8) -> u16
-    ensures { λ r. ⌜ r ≡ getD (now (symbols .entry)) (x / 64 % 2 * 256 + byte) 0 ⌝ }
+// The word's half for the side of 0 on which the lane stands: no jump, which would be missed half the time.
+fn half_of(x: u32, word: u32) -> u32
+    ensures { λ r. ⌜ r ≡ half x word ⌝ }
 {
-    symbols[((x / 64 % 2) as usize) * 256 + (byte as usize)]
+    word >> (std::num::wrapping_add_u32(x, word / 0x80000000) / 16 % 2 * 16)
 }
 
-// One byte of the row, at index i.
-fn one(
-    shifts: &[u64; 256],
-    symbols: &[u16; 512],
-    bytes: &[u8],
-    x: u64,
-    i: usize,
-    out: &mut [u16],
-) -> u64
-    requires { ⌜ Rule (now shifts) (now symbols) × Field x × (i < length (now bytes)) × (length (now out) ≡ length (now bytes)) ⌝ }
-    ensures { λ r. ⌜ Field r × (length (now (out .exit)) ≡ length (now (out .entry))) ⌝ }
-    ensures { λ r. ⌜ ((d : ℤ) → Written d (now (bytes .entry)) (now (out .entry)) x i → Written d (now (bytes .entry)) (now (out .exit)) r (i + 1)) ⌝ }
+fn step(words: &[u32; 256], x: u32, byte: u8) -> Stepped
+    requires { ⌜ (now words ≡ made wordOf 0 256) × Field x ⌝ }
+    ensures { λ r. ⌜ Step (unbiased (held x)) byte (r .symbol) (r .state) ⌝ }
 {
-    let byte = bytes[i];
-    let y = moved(shifts, x, byte);
-    out[i] = picked(symbols, y, byte);
-    y
-}
-
-fn four(
-    shifts: &[u64; 256],
-    symbols: &[u16; 512],
-    bytes: &[u8],
-    x: u64,
-    i: usize,
-    out: &mut [u16],
-) -> u64
-    requires { ⌜ Rule (now shifts) (now symbols) × Field x × (i + 3 < length (now bytes)) × (length (now out) ≡ length (now bytes)) ⌝ }
-    ensures { λ r. ⌜ Field r × (length (now (out .exit)) ≡ length (now (out .entry))) ⌝ }
-    ensures { λ r. ⌜ ((d : ℤ) → Written d (now (bytes .entry)) (now (out .entry)) x i → Written d (now (bytes .entry)) (now (out .exit)) r (i + 4)) ⌝ }
-{
-    let a = one(shifts, symbols, bytes, x, i, out);
-    let b = one(shifts, symbols, bytes, a, i + 1, out);
-    let c = one(shifts, symbols, bytes, b, i + 2, out);
-    one(shifts, symbols, bytes, c, i + 3, out)
-}
-
-// The bytes from index i on, one a turn.
-fn rest(
-    shifts: &[u64; 256],
-    symbols: &[u16; 512],
-    bytes: &[u8],
-    x: u64,
-    i: usize,
-    out: &mut [u16],
-) -> u64
-    requires { ⌜ Rule (now shifts) (now symbols) × Field x × (i ≤ length (now bytes)) × (length (now out) ≡ length (now bytes)) ⌝ }
-    ensures { λ _. ⌜ length (now (out .exit)) ≡ length (now (out .entry)) ⌝ }
-    ensures { λ r. ⌜ ((d : ℤ) → Written d (now (bytes .entry)) (now (out .entry)) x i → Written d (now (bytes .entry)) (now (out .exit)) r (length (now (bytes .entry)))) ⌝ }
-{
-    let mut at = i;
-    let mut y = x;
-    while at < bytes.len() {
-        y = one(shifts, symbols, bytes, y, at, out);
-        at += 1;
+    let y = half_of(x, words[byte as usize]);
+    Stepped {
+        symbol: (y % 1024) as u16,
+        state: std::num::wrapping_add_u32(x, y / 1024),
     }
-    y
 }
 
-// The whole row, four bytes a turn while there are four. The tables are lent here once: a table that a small function names is copied at each call.
-fn fill(shifts: &[u64; 256], symbols: &[u16; 512], bytes: &[u8], start: u64, out: &mut [u16]) -> u64
-    requires { ⌜ Rule (now shifts) (now symbols) × Field start × (length (now out) ≡ length (now bytes)) ⌝ }
+// The whole row. It counts in 32 bits: a board's registers have no more.
+fn fill(words: &[u32; 256], bytes: &[u8], start: u32, out: &mut [u16]) -> u32
+    requires { ⌜ (now words ≡ made wordOf 0 256) × Field start × (length (now bytes) ≤ 4096) × (length (now out) ≡ length (now bytes)) ⌝ }
     ensures { λ r. ⌜ Field r × (unbiased (held r) ≡ rowEnd (unbiased (held start)) (now (bytes .entry))) ⌝ }
     ensures { λ _. ⌜ now (out .exit) ≡ rowSymbols (unbiased (held start)) (now (bytes .entry)) ⌝ }
 {
-    let mut i = 0;
+    let n = bytes.len() as u32;
+    let mut i: u32 = 0;
     let mut x = start;
-    while bytes.len() - i >= 4 {
-        x = four(shifts, symbols, bytes, x, i, out);
-        i += 4;
+    while i < n {
+        let s = step(words, x, bytes[i as usize]);
+        out[i as usize] = s.symbol;
+        x = s.state;
+        i += 1;
     }
-    rest(shifts, symbols, bytes, x, i, out)
+    x
 }
 
-// The shift with which a row begins: seven times the discrepancy counted from -4.
-fn begun(discrepancy: i32) -> u64
+// The discrepancy counted from -15, with which a row begins.
+fn begun(discrepancy: i32) -> u32
     requires { ⌜ T (inRange discrepancy) ⌝ }
     ensures { λ r. ⌜ Field r × (unbiased (held r) ≡ discrepancy) ⌝ }
 {
-    ((discrepancy + 4) as u64) * 7
+    (discrepancy + 15) as u32
 }
 
-// The discrepancy that a shifted word holds.
-fn ended(x: u64) -> i32
+// The discrepancy that is held.
+fn ended(x: u32) -> i32
     requires { ⌜ Field x ⌝ }
     ensures { λ r. ⌜ r ≡ unbiased (held x) ⌝ }
 {
-    ((x % 64 / 7) as i32) - 4
+    ((x % 32) as i32) - 15
 }
 
 // A row is at most 4,096 long, and the buffer as long as the row.
@@ -159,7 +111,7 @@ pub fn encode_row(discrepancy: i32, bytes: &[u8], out: &mut [u16]) -> RowEncoded
     match v {
         Verdict::Refused(r) => RowEncoded::Refused(r, discrepancy),
         Verdict::Fine => {
-            let x = fill(&SHIFTS, &SYMBOLS, bytes, begun(discrepancy), out);
+            let x = fill(&WORDS, bytes, begun(discrepancy), out);
             RowEncoded::Done(ended(x))
         }
     }
@@ -174,41 +126,19 @@ fn put(out: &mut [u8], at: usize, symbol: u16)
     out[at + 1] = (symbol / 256 % 256) as u8;
 }
 
-// One byte of the row, at index i.
-fn one_stored(
-    shifts: &[u64; 256],
-    symbols: &[u16; 512],
-    bytes: &[u8],
-    x: u64,
-    i: usize,
-    out: &mut [u8],
-) -> u64
-    requires { ⌜ Rule (now shifts) (now symbols) × Field x × (i < length (now bytes)) × (length (now out) ≡ 2 * length (now bytes)) ⌝ }
-    ensures { λ r. ⌜ Field r × (length (now (out .exit)) ≡ length (now (out .entry))) ⌝ }
-    ensures { λ r. ⌜ ((d : ℤ) → Stored d (now (bytes .entry)) (now (out .entry)) x i → Stored d (now (bytes .entry)) (now (out .exit)) r (i + 1)) ⌝ }
-{
-    let byte = bytes[i];
-    let y = moved(shifts, x, byte);
-    put(out, 2 * i, picked(symbols, y, byte));
-    y
-}
-
 // The whole row.
-fn fill_stored(
-    shifts: &[u64; 256],
-    symbols: &[u16; 512],
-    bytes: &[u8],
-    start: u64,
-    out: &mut [u8],
-) -> u64
-    requires { ⌜ Rule (now shifts) (now symbols) × Field start × (length (now out) ≡ 2 * length (now bytes)) ⌝ }
+fn fill_stored(words: &[u32; 256], bytes: &[u8], start: u32, out: &mut [u8]) -> u32
+    requires { ⌜ (now words ≡ made wordOf 0 256) × Field start × (length (now bytes) ≤ 4096) × (length (now out) ≡ 2 * length (now bytes)) ⌝ }
     ensures { λ r. ⌜ Field r × (unbiased (held r) ≡ rowEnd (unbiased (held start)) (now (bytes .entry))) ⌝ }
     ensures { λ _. ⌜ now (out .exit) ≡ bytesOf 2 (rowSymbols (unbiased (held start)) (now (bytes .entry))) ⌝ }
 {
-    let mut i = 0;
+    let n = bytes.len() as u32;
+    let mut i: u32 = 0;
     let mut x = start;
-    while i < bytes.len() {
-        x = one_stored(shifts, symbols, bytes, x, i, out);
+    while i < n {
+        let s = step(words, x, bytes[i as usize]);
+        put(out, 2 * (i as usize), s.symbol);
+        x = s.state;
         i += 1;
     }
     x
@@ -226,7 +156,7 @@ pub fn encode_row_bytes(discrepancy: i32, bytes: &[u8], out: &mut [u8]) -> RowEn
     match v {
         Verdict::Refused(r) => RowEncoded::Refused(r, discrepancy),
         Verdict::Fine => {
-            let last = fill_stored(&SHIFTS, &SYMBOLS, bytes, begun(discrepancy), out);
+            let last = fill_stored(&WORDS, bytes, begun(discrepancy), out);
             RowEncoded::Done(ended(last))
         }
     }

@@ -1,24 +1,22 @@
 -- What the reader's answers mean, as existence: a row is read exactly when each of its symbols is a data symbol, and the place of a refusal is the
 -- lowest index of one that is none.
-use mathlib.Core.Path.{_≡_, refl, sym, ap, _∙_}
-use mathlib.Core.Bool.{Bool, true, false, not}
+use mathlib.Core.Path.{_≡_, _∙_}
+use mathlib.Core.Bool.{true, false, not}
 use mathlib.Core.List.{List}
 use Prim.Native.Nat.{ℕ, _+_, _≤_, _<_}
 use native.Mathlib.Decide.{decLe}
 use native.Mathlib.Nat.{zero-add}
 use native.Mathlib.Omega.{arith}
-use borrow.Author.Tests.{eqb-false, eq-eqb, ne-eqb, not-true, not-false}
+use borrow.Author.Tests.{eq-eqb, ne-eqb, not-true, not-false}
 use lib.Dec.{T, eqb, eqb→eq}
 use lib.IntN.{ℤ}
 use lib.ListN.{length, getD}
-use Rattle.laws.specs.Search.{first}
-use Rattle.laws.proofs.Searching.{first-le, before, found, none}
+use Rattle.laws.proofs.Searching.{before, found, none}
 use Rattle.laws.proofs.Truth.{T-true, true-T}
 use Rattle.dvi.specs.Decoder.{byteOf, isData}
 use Rattle.dvi.specs.Symbol.{Encodes, DataSymbol}
 use Rattle.dvi.proofs.Decoding.{test-data, data-test, not-data}
 use Rattle.refusal.specs.declared.Refusal.the-variants.{Length, NotData}
-use Rattle.refusal.specs.declared.Verdict.{Verdict}
 use Rattle.refusal.specs.declared.Verdict.the-variants.{Fine, Refused}
 use Rattle.refusal.specs.Verdict.{verdict, unless}
 use Rattle.refusal.proofs.Verdicts.{holds-first, fine-rest}

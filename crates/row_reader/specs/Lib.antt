@@ -1,2 +1,3 @@
+pub mod Along
 pub mod Answer
 pub mod Wire

@@ -1,7 +1,7 @@
 // The TMDS symbol of DVI 1.0, two symbols in a word, and three lanes in a word. After tmds.rs, with a reader that it lacks.
 use refusal::Refusal;
 ghost use mathlib.Core.Path.{_≡_};
-ghost use Prim.Native.Nat.{_*_, _<_};
+ghost use Prim.Native.Nat.{_*_, _%_, _<_};
 ghost use mathlib.Core.Bool.{cond};
 ghost use lib.Bits.{bitXor};
 ghost use lib.Dec.{T};
@@ -105,16 +105,12 @@ pub enum Encoded {
     Refused(Refusal, i32),
 }
 
-// The byte that the decoder's chart gives for ten bits, data symbol or not: a carry-less product with 3.
-fn restored(symbol: u32) -> u8
-    requires { ⌜ symbol < 1024 ⌝ }
-    ensures { λ r. ⌜ r ≡ byteOf symbol ⌝ }
+// The byte that the decoder's chart gives for a number's low ten bits, data symbol or not: each bit with the one below it, and by bits 8 and 9 those
+// flipped back that the encoder flipped.
+pub fn byte_of(symbol: u32) -> u8
+    ensures { λ r. ⌜ r ≡ byteOf (symbol % 1024) ⌝ }
 {
-    let bit_9 = symbol >> 9;
-    let bit_8 = (symbol >> 8) % 2;
-    let low = (symbol % 256) ^ (bit_9 * 0xff);
-    let by_3 = (low << 1) ^ low ^ ((1 - bit_8) * 0xfe);
-    (by_3 % 256) as u8
+    ((symbol ^ (symbol << 1) ^ (0x01ff00fe >> (symbol / 256 % 4 * 8))) % 256) as u8
 }
 
 // Whether the encoder ever sends these ten bits: the intermediate is the byte's own, and with four ones in it bit 9 differs from bit 8.
@@ -125,7 +121,7 @@ fn is_data(symbol: u32) -> bool
     let bit_9 = symbol >> 9;
     let bit_8 = (symbol >> 8) % 2;
     let low = (symbol % 256) ^ (bit_9 * 0xff);
-    let word = minimized(restored(symbol));
+    let word = minimized(byte_of(symbol));
     (word == low ^ (bit_8 * 0x100)) & ((u32::count_ones(low) != 4) | (bit_9 != bit_8))
 }
 
@@ -177,7 +173,7 @@ impl TmdsSymbol {
         if !is_data(symbol) {
             return SymbolRead::Refused(Refusal::NotData(0));
         }
-        SymbolRead::Byte(restored(symbol))
+        SymbolRead::Byte(byte_of(symbol))
     }
 }
 

@@ -2,6 +2,9 @@
 use mathlib.Core.Path.{refl}
 use borrow.Author.Tests.{eq-eqb, ne-eqb, lt-ltb, le-ltb}
 use borrow.Author.Needs.{needs}
+use Rattle.laws.specs.Bit.{bit}
+use Rattle.hdmi.specs.Terc4.{terc4}
+use Rattle.island.specs.Pairs.{twoLanes}
 use Rattle.island.proofs.encode.Statement.{statement}
 use Rattle.island.proofs.encode.Tie as tie
 
@@ -19,14 +22,15 @@ lane-zero-requires : tie.Need-lane-zero-requires
 lane-zero-requires c κs = search needs
 
 fill-requires : tie.Need-fill-requires
-fill-requires c κs = search needs
+unfolding twoLanes terc4 bit
+fill-requires c κs = (search needs, search needs, search needs, search needs, refl)
 
 same-length : tie.Need-same-length
 same-length c = search needs
 
 returns-4 : tie.Need-returns-4
 returns-4 c =
-    let t = c .before .before .before .before .before .before in
+    let t = c .before .before .before .before .before .before .before in
     simp (eq-eqb _ _ (t .before .before .if1 .left), eq-eqb _ _ (t .before .if2 .left), lt-ltb _ _ (t .if3 .left))
     (refl, c .before .before .fill .ensures)
 

@@ -18,11 +18,11 @@ use Rattle.island.proofs.fill.Statement.{statement}
 use Rattle.island.proofs.fill.Tie as tie
 
 abbrev Inv-loop : tie.InvT-loop
-Inv-loop hv zero packet words₀ g header₀ rows₀ i₀ words header rows i =
+Inv-loop hv zero packed packet words₀ g header₀ rows₀ i₀ words header rows i =
     (i ≤ 8) × (length words ≡ 36) × Front (island hv packet) (2 + 4 * i) words × Header packet i header × Rows packet i rows
 
 abbrev μ-loop : tie.MeasureT-loop
-μ-loop hv zero packet words₀ g header₀ rows₀ i₀ words header rows i = 8 - i
+μ-loop hv zero packed packet words₀ g header₀ rows₀ i₀ words header rows i = 8 - i
 
 guard-requires : tie.Need-guard-requires Inv-loop μ-loop
 guard-requires c κs = search needs
@@ -55,7 +55,7 @@ put-four-requires : tie.Need-put-four-requires Inv-loop μ-loop
 put-four-requires c κs =
     let start = c .before .before .before .before .before .before .before .before .before in
     let l = c .before .before .before .loop in
-    (start .pre .0, start .pre .1, l .inv .3, l .inv .4, omega arith, l .inv .1, l .inv .2)
+    (start .pre .0, start .pre .1, l .inv .3, l .inv .4, omega arith, l .inv .1, l .inv .2, start .pre .4)
 
 next-rows-requires : tie.Need-next-rows-requires Inv-loop μ-loop
 next-rows-requires c κs = search needs

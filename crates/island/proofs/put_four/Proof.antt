@@ -14,10 +14,10 @@ use Rattle.island.proofs.put_four.Statement.{statement}
 use Rattle.island.proofs.put_four.Tie as tie
 
 abbrev Inv-loop : tie.InvT-loop
-Inv-loop hv zero packet header rows i words₀ j₀ words j = (j ≤ 4) × (length words ≡ 36) × Front (island hv packet) (2 + 4 * i + j) words
+Inv-loop hv zero packed packet header rows i words₀ j₀ words j = (j ≤ 4) × (length words ≡ 36) × Front (island hv packet) (2 + 4 * i + j) words
 
 abbrev μ-loop : tie.MeasureT-loop
-μ-loop hv zero packet header rows i words₀ j₀ words j = 4 - j
+μ-loop hv zero packed packet header rows i words₀ j₀ words j = 4 - j
 
 loop-holds : tie.Need-loop-holds Inv-loop μ-loop
 loop-holds c =

@@ -12,11 +12,8 @@ cast-result c =
     let h = lifted-small (c .args .discrepancy) (c .pre) in
     (not-negative (c .args .discrepancy) (c .pre), record { fits = omega arith })
 
-mul-result : tie.Need-mul-result
-mul-result c = let h = lifted-small (c .args .discrepancy) (c .pre) in record { fits = omega arith }
-
 returns : tie.Need-returns
 returns c = (lifted-field (c .args .discrepancy) (c .pre), lifted-held (c .args .discrepancy) (c .pre))
 
 pub begun-spec : {M : Type 1} → statement M
-begun-spec = tie.close (tie.spec add-result cast-result mul-result returns)
+begun-spec = tie.close (tie.spec add-result cast-result returns)

@@ -1,24 +1,19 @@
 -- `encode_row` writes DVI 1.0's row, or nothing.
 use mathlib.Core.Path.{_≡_, refl, sym, ap, _∙_}
-use mathlib.Core.List.{List, []}
-use Prim.Native.Nat.{ℕ, _<_}
+use Prim.Native.Nat.{_≤_}
 use borrow.Author.Needs.{needs, sfits-of}
 use lib.Dec.{T}
 use lib.IntN.{ℤ}
 use lib.ListN.{length}
-use mir.Syntax.{w32}
-use mir.Val.{toZ, ofZ}
 use mir.Facts.{toZ-ofZ}
-use Rattle.dvi.specs.Encoder.{qmOf}
 use Rattle.dvi.specs.Row.{rowSymbols, rowEnd}
 use Rattle.dvi.specs.Symbol.{inRange, symbolOf}
 use Rattle.refusal.specs.declared.Verdict.the-variants.{Fine}
 use Rattle.refusal.specs.Verdict.{verdict}
 use Rattle.row.specs.declared.RowEncoded.the-variants.{Done}
 use Rattle.row.specs.Answer.{encodeRowAsks}
-use Rattle.row_tables.specs.Shift.{unbiased, held}
-use Rattle.row.proofs.Asked.{same-lengths, ranged}
-use Rattle.row_tables.proofs.Rules.{rule}
+use Rattle.charts.specs.Word.{unbiased, held}
+use Rattle.row.proofs.Asked.{same-lengths, short-row, ranged}
 use Rattle.row.proofs.encode_row.Statement.{statement}
 use Rattle.row.proofs.encode_row.Tie as tie
 
@@ -44,13 +39,16 @@ in-range c = let a = c .before .before .before .before .before .args in ranged (
 as-long : (c : tie.After-enum-told) → length (c .before .before .before .before .before .args .out .now) ≡ length (c .before .before .before .before .before .args .bytes .now)
 as-long c = let a = c .before .before .before .before .before .args in same-lengths (a .discrepancy) (length (a .bytes .now)) (length (a .out .now)) (is-fine c)
 
+short : (c : tie.After-enum-told) → length (c .before .before .before .before .before .args .bytes .now) ≤ 4096
+short c = let a = c .before .before .before .before .before .args in short-row (a .discrepancy) (length (a .bytes .now)) (length (a .out .now)) (is-fine c)
+
 begun-requires : tie.Need-begun-requires
 begun-requires c κs =
-    rw (toZ-ofZ (c .before .before .before .before .before .before .before .fits .discrepancy)) (in-range (c .before .before))
+    rw (toZ-ofZ (c .before .before .before .before .before .before .fits .discrepancy)) (in-range (c .before))
 
 fill-requires : tie.Need-fill-requires
-unfolding symbolOf qmOf
-fill-requires c κs = (rule _ _ refl refl, search needs, as-long (c .before .before .before .before))
+unfolding symbolOf
+fill-requires c κs = (refl, search needs, short (c .before .before .before), as-long (c .before .before .before))
 
 ended-requires : tie.Need-ended-requires
 ended-requires c κs = search needs
@@ -66,13 +64,13 @@ same-length c = search needs
 
 returns-2 : tie.Need-returns-2
 returns-2 c =
-    let a = c .before .before .before .before .before .before .before .before .before .before .before .before .before in
+    let a = c .before .before .before .before .before .before .before .before .before .before .before .before in
     let f = c .before .before .before .fill .ensures in
     let b : unbiased (held (c .before .before .before .before .before .begun .result)) ≡ a .args .discrepancy =
     rw (toZ-ofZ (a .fits .discrepancy)) at (c .before .before .before .before .before .begun .ensures .1) in
     let n : c .ended .result ≡ rowEnd (a .args .discrepancy) (a .args .bytes .now) =
     c .ended .ensures ∙ f .0 .1 ∙ ap (λ (d : ℤ). rowEnd d (a .args .bytes .now)) b in
-    rw (is-fine (c .before .before .before .before .before .before .before .before)) (ap Done (toZ-ofZ (sfits-of (c .ended .ok)) ∙ n), f .1 ∙ ap (λ (d : ℤ). rowSymbols d (a .args .bytes .now)) b)
+    rw (is-fine (c .before .before .before .before .before .before .before)) (ap Done (toZ-ofZ (sfits-of (c .ended .ok)) ∙ n), f .1 ∙ ap (λ (d : ℤ). rowSymbols d (a .args .bytes .now)) b)
 
 pub encode-row-spec : {M : Type 1} → statement M
 encode-row-spec =

@@ -1,30 +1,44 @@
 -- `fill` writes the whole row.
-use mathlib.Core.Path.{_≡_, refl, sym, _∙_}
-use Prim.Native.Nat.{ℕ, _≤_, _-_}
+use mathlib.Core.Path.{_≡_}
+use Prim.Native.Nat.{_≤_, _-_}
 use native.Mathlib.Omega.{arith}
+use lib.ListN.{length, length-set}
+use Rattle.charts.specs.Word.{unbiased, held, Field}
+use Rattle.row.proofs.Turns.{Written, begin, write, all-written}
 use borrow.Author.Needs.{needs}
-use lib.ListN.{length}
-use Rattle.row_tables.specs.Shift.{unbiased, held, Field}
-use Rattle.row.specs.Along.{Written}
-use Rattle.row.proofs.Turns.{at-start, all-written}
 use Rattle.row.proofs.fill.Statement.{statement}
 use Rattle.row.proofs.fill.Tie as tie
 
 abbrev Inv-loop : tie.InvT-loop
-Inv-loop shifts symbols bytes start out₀ i₀ x₀ out i x =
-    (i ≤ length bytes) × (length out ≡ length bytes) × Field x × Written (unbiased (held start)) bytes out x i
+Inv-loop words bytes start out₀ n i₀ x₀ out i x =
+    (i ≤ n) × (n ≡ length bytes) × (length out ≡ length bytes) × Field x × Written (unbiased (held start)) bytes out x i
 
 abbrev μ-loop : tie.MeasureT-loop
-μ-loop shifts symbols bytes start out₀ i₀ x₀ out i x = length bytes - i
+μ-loop words bytes start out₀ n i₀ x₀ out i x = n - i
+
+cast-n : tie.Need-cast-n Inv-loop μ-loop
+cast-n c = search needs
 
 loop-holds : tie.Need-loop-holds Inv-loop μ-loop
-loop-holds c = (search needs, search needs, search needs, at-start _ _ _ (c .before .before .pre .1))
+loop-holds c = let z = c .before .before in (search needs, search needs, z .pre .3, z .pre .1, begin (z .args .bytes .now) (z .args .start) (z .pre .1))
 
-sub-loop : tie.Need-sub-loop Inv-loop μ-loop
-sub-loop c = search needs
+cast-step : tie.Need-cast-step Inv-loop μ-loop
+cast-step c = search needs
 
-four-requires : tie.Need-four-requires Inv-loop μ-loop
-four-requires c κs = search needs
+shared-slice-read-step : tie.Need-shared-slice-read-step Inv-loop μ-loop
+shared-slice-read-step c = search needs
+
+step-requires : tie.Need-step-requires Inv-loop μ-loop
+step-requires c κs = search needs
+
+cast-out : tie.Need-cast-out Inv-loop μ-loop
+cast-out c = search needs
+
+mul-out : tie.Need-mul-out Inv-loop μ-loop
+mul-out c = search needs
+
+slice-write-out : tie.Need-slice-write-out Inv-loop μ-loop
+slice-write-out c = search needs
 
 add-i : tie.Need-add-i Inv-loop μ-loop
 add-i c = search needs
@@ -34,23 +48,19 @@ loop-less c = search needs
 
 loop-again : tie.Need-loop-again Inv-loop μ-loop
 loop-again c =
-    let e = c .before .before .four .ensures in
-    let l = c .before .before .before .before .before .loop in
-    (omega arith, omega arith, e .0 .0, e .1 _ (l .inv .3))
-
-rest-requires : tie.Need-rest-requires Inv-loop μ-loop
-rest-requires c κs = search needs
+    let l = c .before .before .before .loop in
+    let z = c .before .before .before .before .before .before in
+    let t = c .step .ensures in
+    (omega arith, l .inv .1, simp length-set (l .inv .2), t .field, write (z .args .bytes .now) (l .out) _ (l .x) (l .i) _ _ (omega arith) (omega arith) t (l .inv .4))
 
 same-length : tie.Need-same-length Inv-loop μ-loop
 same-length c = search needs
 
 returns : tie.Need-returns Inv-loop μ-loop
 returns c =
-    let e = c .before .before .rest .ensures in
-    let l = c .before .before .before .before .before .loop in
-    let w = e .1 _ (l .inv .3) in
-    let r = all-written (e .0 ∙ l .inv .1) w in
-    ((w .along .field, r .0), r .1)
+    let l = c .before .loop in
+    let r = all-written (omega arith) (l .inv .2) (l .inv .4) in
+    ((l .inv .3, r .0), r .1)
 
 pub fill-spec : {M : Type 1} → statement M
 fill-spec =
@@ -58,12 +68,16 @@ fill-spec =
     (tie.spec
     Inv-loop
     μ-loop
+    cast-n
     loop-holds
-    sub-loop
-    four-requires
+    cast-step
+    shared-slice-read-step
+    step-requires
+    cast-out
+    mul-out
+    slice-write-out
     add-i
     loop-less
     loop-again
-    rest-requires
     same-length
     returns)

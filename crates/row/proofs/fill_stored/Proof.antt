@@ -1,27 +1,44 @@
 -- `fill_stored` writes the whole row.
-use mathlib.Core.Path.{_≡_, refl, sym, _∙_}
-use Prim.Native.Nat.{ℕ, _*_, _≤_, _-_}
+use mathlib.Core.Path.{_≡_}
+use Prim.Native.Nat.{_*_, _≤_, _-_}
 use native.Mathlib.Omega.{arith}
-use borrow.Author.Needs.{needs}
 use lib.ListN.{length}
-use Rattle.row_tables.specs.Shift.{unbiased, held, Field}
-use Rattle.row.specs.Along.{Stored}
-use Rattle.row.proofs.Turns.{stored-start, stored-end}
+use Rattle.charts.specs.Word.{unbiased, held, Field}
+use Rattle.row.proofs.Turns.{Stored, stored-none, store, stored-all}
+use borrow.Author.Needs.{needs}
 use Rattle.row.proofs.fill_stored.Statement.{statement}
 use Rattle.row.proofs.fill_stored.Tie as tie
 
 abbrev Inv-loop : tie.InvT-loop
-Inv-loop shifts symbols bytes start out₀ i₀ x₀ out i x =
-    (i ≤ length bytes) × (length out ≡ 2 * length bytes) × Field x × Stored (unbiased (held start)) bytes out x i
+Inv-loop words bytes start out₀ n i₀ x₀ out i x =
+    (i ≤ n) × (n ≡ length bytes) × (length out ≡ 2 * length bytes) × Field x × Stored (unbiased (held start)) bytes out x i
 
 abbrev μ-loop : tie.MeasureT-loop
-μ-loop shifts symbols bytes start out₀ i₀ x₀ out i x = length bytes - i
+μ-loop words bytes start out₀ n i₀ x₀ out i x = n - i
+
+cast-n : tie.Need-cast-n Inv-loop μ-loop
+cast-n c = search needs
 
 loop-holds : tie.Need-loop-holds Inv-loop μ-loop
-loop-holds c = (search needs, search needs, search needs, stored-start _ _ _ (c .before .before .pre .1))
+loop-holds c = let z = c .before .before in (search needs, search needs, z .pre .3, z .pre .1, stored-none (z .args .bytes .now) _ (z .args .start) (z .pre .1))
 
-one-stored-requires : tie.Need-one-stored-requires Inv-loop μ-loop
-one-stored-requires c κs = search needs
+cast-step : tie.Need-cast-step Inv-loop μ-loop
+cast-step c = search needs
+
+shared-slice-read-step : tie.Need-shared-slice-read-step Inv-loop μ-loop
+shared-slice-read-step c = search needs
+
+step-requires : tie.Need-step-requires Inv-loop μ-loop
+step-requires c κs = search needs
+
+cast-put : tie.Need-cast-put Inv-loop μ-loop
+cast-put c = search needs
+
+mul-put : tie.Need-mul-put Inv-loop μ-loop
+mul-put c = search needs
+
+put-requires : tie.Need-put-requires Inv-loop μ-loop
+put-requires c κs = search needs
 
 add-i : tie.Need-add-i Inv-loop μ-loop
 add-i c = search needs
@@ -31,9 +48,10 @@ loop-less c = search needs
 
 loop-again : tie.Need-loop-again Inv-loop μ-loop
 loop-again c =
-    let e = c .before .before .one-stored .ensures in
-    let l = c .before .before .before .before .before .loop in
-    (omega arith, omega arith, e .0 .0, e .1 _ (l .inv .3))
+    let l = c .before .before .before .before .before .before .before .loop in
+    let z = c .before .before .before .before .before .before .before .before .before .before in
+    let t = c .before .before .before .before .step .ensures in
+    (omega arith, l .inv .1, omega arith, t .field, rw (c .before .before .put .ensures) (store (z .args .bytes .now) (l .out) _ (l .x) (l .i) _ _ (omega arith) (omega arith) t (l .inv .4)))
 
 same-length : tie.Need-same-length Inv-loop μ-loop
 same-length c = search needs
@@ -41,8 +59,8 @@ same-length c = search needs
 returns : tie.Need-returns Inv-loop μ-loop
 returns c =
     let l = c .before .loop in
-    let r = stored-end _ (omega arith) (l .inv .1) (l .inv .3) in
-    ((l .inv .2, r .0), r .1)
+    let r = stored-all (omega arith) (l .inv .2) (l .inv .4) in
+    ((l .inv .3, r .0), r .1)
 
 pub fill-stored-spec : {M : Type 1} → statement M
 fill-stored-spec =
@@ -50,8 +68,14 @@ fill-stored-spec =
     (tie.spec
     Inv-loop
     μ-loop
+    cast-n
     loop-holds
-    one-stored-requires
+    cast-step
+    shared-slice-read-step
+    step-requires
+    cast-put
+    mul-put
+    put-requires
     add-i
     loop-less
     loop-again

@@ -2,15 +2,15 @@
 use mathlib.Core.Path.{_≡_, sym, ap, _∙_}
 use mathlib.Core.Bool.{Bool, not}
 use mathlib.Core.List.{List}
-use Prim.Native.Nat.{ℕ, _≤_, _-_}
+use Prim.Native.Nat.{ℕ, _-_, _≤_}
 use native.Mathlib.Omega.{arith}
-use borrow.Author.Needs.{needs}
 use lib.ListN.{length, getD}
 use Rattle.laws.specs.Search.{first}
 use Rattle.laws.proofs.Searching.{stop, go-on, end}
 use Rattle.dvi.specs.Decoder.{isData}
 use Rattle.row_reader.specs.Answer.{firstBad}
-use Rattle.row_reader.proofs.Lookups.{none-above, data-below}
+use borrow.Author.Needs.{needs}
+use borrow.Author.Tests.{not-true, not-false}
 use Rattle.row_reader.proofs.scan.Statement.{statement}
 use Rattle.row_reader.proofs.scan.Tie as tie
 
@@ -18,11 +18,11 @@ abbrev bad : List ℕ → ℕ → Bool
 bad ss i = not (isData (getD ss i 0))
 
 abbrev Inv-loop : tie.InvT-loop
-Inv-loop bytes symbols i₀ i =
+Inv-loop map symbols i₀ i =
     (i ≤ length symbols) × (firstBad symbols ≡ first (bad symbols) i (length symbols - i))
 
 abbrev μ-loop : tie.MeasureT-loop
-μ-loop bytes symbols i₀ i = length symbols - i
+μ-loop map symbols i₀ i = length symbols - i
 
 loop-holds : tie.Need-loop-holds Inv-loop μ-loop
 loop-holds c =
@@ -30,20 +30,23 @@ loop-holds c =
     let whole : length ss ≡ length ss - 0 = omega arith in
     (search needs, ap (first (bad ss) 0) whole)
 
-mul-looked-up : tie.Need-mul-looked-up Inv-loop μ-loop
-mul-looked-up c = search needs
+mul-is-data : tie.Need-mul-is-data Inv-loop μ-loop
+mul-is-data c = search needs
 
-shared-slice-read-looked-up : tie.Need-shared-slice-read-looked-up Inv-loop μ-loop
-shared-slice-read-looked-up c = search needs
+shared-slice-read-is-data : tie.Need-shared-slice-read-is-data Inv-loop μ-loop
+shared-slice-read-is-data c = search needs
 
-looked-up-requires : tie.Need-looked-up-requires Inv-loop μ-loop
-looked-up-requires c κs = c .before .before .before .before .pre .entry _ (omega arith)
+cast-is-data : tie.Need-cast-is-data Inv-loop μ-loop
+cast-is-data c = record { fits = omega (arith, c .shared-slice-known2 .given (c .before .before .loop .i)) }
+
+is-data-requires : tie.Need-is-data-requires Inv-loop μ-loop
+is-data-requires c κs = search needs
 
 returns : tie.Need-returns Inv-loop μ-loop
 returns c =
     let l = c .before .before .before .before .loop in
     let ss = c .before .before .before .before .before .before .args .symbols .now in
-    let e = none-above (getD ss (l .i) 0) (rw (c .before .looked-up .ensures) at (c .if1 .taken)) in
+    let e = sym (c .before .is-data .ensures) ∙ not-true _ (c .if1 .taken) in
     sym (l .inv .1 ∙ stop (bad ss) (l .i) (length ss) (omega arith) (simp e))
 
 add-i : tie.Need-add-i Inv-loop μ-loop
@@ -56,7 +59,7 @@ loop-again : tie.Need-loop-again Inv-loop μ-loop
 loop-again c =
     let l = c .before .before .before .before .loop in
     let ss = c .before .before .before .before .before .before .args .symbols .now in
-    let e = data-below (getD ss (l .i) 0) (rw (c .before .looked-up .ensures) at (c .if1 .left)) in
+    let e = sym (c .before .is-data .ensures) ∙ not-false _ (c .if1 .left) in
     (omega arith, l .inv .1 ∙ go-on (bad ss) (l .i) (length ss) (omega arith) (simp e))
 
 returns-2 : tie.Need-returns-2 Inv-loop μ-loop
@@ -72,9 +75,10 @@ scan-spec =
     Inv-loop
     μ-loop
     loop-holds
-    mul-looked-up
-    shared-slice-read-looked-up
-    looked-up-requires
+    mul-is-data
+    shared-slice-read-is-data
+    cast-is-data
+    is-data-requires
     returns
     add-i
     loop-less

@@ -1,7 +1,7 @@
 -- `symbol_at` joins a symbol's two bytes.
 use mathlib.Core.Path.{_∙_}
-use borrow.Author.Needs.{needs}
 use Rattle.row_reader.proofs.Symbols.{symbol-in}
+use borrow.Author.Needs.{needs}
 use Rattle.row_reader.proofs.symbol_at.Statement.{statement}
 use Rattle.row_reader.proofs.symbol_at.Tie as tie
 

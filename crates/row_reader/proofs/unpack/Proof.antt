@@ -1,38 +1,35 @@
--- `unpack` writes the bytes of a scanned row.
+-- `unpack` writes bytes of a scanned row.
 use mathlib.Core.Path.{_≡_, ap, _∙_}
-use mathlib.Core.List.{_++_}
-use Prim.Native.Nat.{ℕ, _≤_, _<_, _-_, _%_}
-use native.Mathlib.Nat.{mod-eq-of-lt}
+use Prim.Native.Nat.{_-_, _≤_}
 use native.Mathlib.Omega.{arith}
-use borrow.Author.Needs.{needs}
-use lib.ListN.{length, take, drop, getD, length-set}
+use lib.ListN.{length, length-set}
 use Rattle.dvi.specs.Decoder.{byteOf}
-use Rattle.dvi.specs.Row.{rowBytes}
-use Rattle.row_reader.proofs.Lookups.{scanned, byte-below, entry-of-data, unpacked-more, unpacked-all}
+use Rattle.row_reader.proofs.Lookups.{data-low, Unpacked, unpacked-none, unpacked-more, unpacked-all}
+use borrow.Author.Needs.{needs}
 use Rattle.row_reader.proofs.unpack.Statement.{statement}
 use Rattle.row_reader.proofs.unpack.Tie as tie
 
 abbrev Inv-loop : tie.InvT-loop
-Inv-loop bytes symbols out₀ i₀ out i =
-    (i ≤ length symbols) × (length out ≡ length symbols) × (take i out ++ rowBytes (drop i symbols) ≡ rowBytes symbols)
+Inv-loop symbols out₀ i₀ out i =
+    (i ≤ length symbols) × (length out ≡ length symbols) × Unpacked symbols out i
 
 abbrev μ-loop : tie.MeasureT-loop
-μ-loop bytes symbols out₀ i₀ out i = length symbols - i
+μ-loop symbols out₀ i₀ out i = length symbols - i
 
 loop-holds : tie.Need-loop-holds Inv-loop μ-loop
-loop-holds c = search needs
+loop-holds c = (search needs, search needs, unpacked-none _ _)
 
-mul-looked-up : tie.Need-mul-looked-up Inv-loop μ-loop
-mul-looked-up c = search needs
+mul-byte-of : tie.Need-mul-byte-of Inv-loop μ-loop
+mul-byte-of c = search needs
 
-shared-slice-read-looked-up : tie.Need-shared-slice-read-looked-up Inv-loop μ-loop
-shared-slice-read-looked-up c = search needs
+shared-slice-read-byte-of : tie.Need-shared-slice-read-byte-of Inv-loop μ-loop
+shared-slice-read-byte-of c = search needs
 
-looked-up-requires : tie.Need-looked-up-requires Inv-loop μ-loop
-looked-up-requires c κs = c .before .before .before .before .before .pre .0 .entry _ (omega arith)
+cast-byte-of : tie.Need-cast-byte-of Inv-loop μ-loop
+cast-byte-of c = record { fits = omega (arith, c .shared-slice-known2 .given (c .before .before .loop .i)) }
 
-cast-out : tie.Need-cast-out Inv-loop μ-loop
-cast-out c = search needs
+byte-of-requires : tie.Need-byte-of-requires Inv-loop μ-loop
+byte-of-requires c κs = search needs
 
 slice-write-out : tie.Need-slice-write-out Inv-loop μ-loop
 slice-write-out c = search needs
@@ -46,14 +43,9 @@ loop-less c = search needs
 loop-again : tie.Need-loop-again Inv-loop μ-loop
 loop-again c =
     let l = c .before .before .before .loop in
-    let a = c .before .before .before .before .before .before in
-    let ss = a .args .symbols .now in
-    let h : l .i < length ss = omega arith in
-    let k : l .i < length (l .out) = omega arith in
-    let e = scanned ss (a .pre .2) (l .i) h in
-    let v : c .looked-up .result % 256 ≡ byteOf (getD ss (l .i) 0) =
-    ap (λ (x : ℕ). x % 256) (c .looked-up .ensures ∙ entry-of-data _ e) ∙ mod-eq-of-lt (byte-below _ e) in
-    (omega arith, simp length-set (l .inv .1), unpacked-more ss (l .out) (l .i) _ h k v ∙ l .inv .2)
+    let z = c .before .before .before .before .before .before in
+    let ss = z .args .symbols .now in
+    (omega arith, simp length-set (l .inv .1), unpacked-more ss (l .out) (l .i) _ (omega arith) (omega arith) (c .byte-of .ensures ∙ ap byteOf (data-low _ (z .pre .1 (l .i) (omega arith)))) (l .inv .2))
 
 same-length : tie.Need-same-length Inv-loop μ-loop
 same-length c = search needs
@@ -70,10 +62,10 @@ unpack-spec =
     Inv-loop
     μ-loop
     loop-holds
-    mul-looked-up
-    shared-slice-read-looked-up
-    looked-up-requires
-    cast-out
+    mul-byte-of
+    shared-slice-read-byte-of
+    cast-byte-of
+    byte-of-requires
     slice-write-out
     add-i
     loop-less

@@ -7,7 +7,7 @@ use lib.Count.{ones}
 use lib.IntN.{ℤ, pos, _+ℤ_, _-ℤ_}
 use mir.Facts.{toZ-ofZ}
 use Rattle.dvi.specs.Plain.{onesOf}
-use Rattle.dvi.specs.Symbol.{inRange, symbolOf, nextOf}
+use Rattle.dvi.specs.Symbol.{symbolOf, nextOf}
 use Rattle.dvi.proofs.Symbols.{qm-small, sent-qm, symbol-small, next-by-ones}
 use Rattle.symbol.specs.declared.Stepped.{Stepped}
 use Rattle.charts.proofs.Counting.{count-ones, ones-small, less-five-fits, sum-fits, sum-read}

@@ -1,5 +1,5 @@
 -- `TmdsPair::encode_pair` answers exactly where the pair ends at 0.
-use mathlib.Core.Path.{_≡_, sym, ap, _∙_}
+use mathlib.Core.Path.{sym, ap, _∙_}
 use Prim.Native.Nat.{ℕ, _<_}
 use borrow.Author.Needs.{needs}
 use lib.IntN.{pos}
