@@ -15,7 +15,7 @@ import sys
 # Names that would fall together with another: what they are called instead. `bit-xor`, `bit-or` and `bit-and` are what a bit of the library's words is.
 APART = {n: n.replace('-', '_') + '_lem' for n in (
     'one-of', 'pair-of', 'in-range', 'offset-fits', 'plain-symbol', 'plain-next', 'terc4-number', 'data-word', 'lengths-fit')}
-APART['eqZ→eq'] = 'eq_z→eq'
+APART |= {'eqZ→eq': 'eq_z→eq', 'bit-shl-low': 'bit_shl_low', 'island-read-back': 'island_read_back', 'read-island-in-order': 'read_island_in_order'}
 APART |= {n: n for n in ('bit-xor', 'bit-or', 'bit-and')}
 
 # Words of the library that lemmas are about.
