@@ -11,7 +11,7 @@ ghost use Rattle.audio_words.specs.Frames.{frame_of, Framed, digit_rule, digit_k
 use refusal::Refusal;
 
 // The count of frames that comes before the next block of 192.
-#[derive(Drop)]
+#[derive(Clone, Copy)]
 pub enum FrameCount {
     Next(i32),
     // With the count as it came in.

@@ -1,4 +1,6 @@
 // The register of HDMI's parity after one byte.
+#![tactic(auto)]
+
 ghost use Rattle.std.specs.Prelude.{◌≡◌, eqb};
 ghost use Rattle.laws.specs.Arms.{Arm};
 ghost use Rattle.hdmi.specs.Parity.{register, bits_of};

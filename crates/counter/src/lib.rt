@@ -9,24 +9,24 @@ use refusal::{Refusal, Verdict};
 use timing::{DviTiming, DviTimingLineState};
 
 // The line that is sent now.
-#[derive(Drop)]
+#[derive(Clone, Copy)]
 pub struct DviTimingState {
     pub v_ctr: u32,
 }
 
-#[derive(Drop)]
+#[derive(Clone, Copy)]
 pub enum Advanced {
     Next(DviTimingState),
     Refused(Refusal, DviTimingState),
 }
 
-#[derive(Drop)]
+#[derive(Clone, Copy)]
 pub enum VState {
     State(DviTimingLineState),
     Refused(Refusal, DviTimingState),
 }
 
-#[derive(Drop)]
+#[derive(Clone, Copy)]
 pub enum Scanline {
     // The row of pixels, from 0.
     Row(u32),

@@ -9,7 +9,7 @@ use timing::DviTiming;
 
 // Sixteen bytes, so it comes back in two registers.
 #[repr(C)]
-#[derive(Drop)]
+#[derive(Clone, Copy)]
 pub struct Answer {
     // 0, or the number of the refusal.
     pub refusal: u32,
@@ -55,7 +55,7 @@ pub fn answer_told(v: Verdict) -> Answer
 // A display mode, as it crosses. Polarities are 0 (negative) or 1 (positive), the bit clock is in kilohertz. The eight numbers with a range lie together
 // from the start on: a caller lays the argument down in pieces of 16 bytes, and the ranges are asked of the same pieces, so no load waits for two stores.
 #[repr(C)]
-#[derive(Drop)]
+#[derive(Clone, Copy)]
 pub struct Timing {
     pub h_front_porch: u32,
     pub h_sync_width: u32,

@@ -1,12 +1,12 @@
 -- The chart's decoder undoes the encoder, so a data symbol has one byte; and a test that computes decides which numbers are data symbols.
-use mathlib.Core.Path.{◌≡◌, refl, sym, ap, ◌∙◌}
-use mathlib.Core.Bool.{Bool, true, false, not, ◌||◌}
+use mathlib.Core.Path.{◌≡◌, sym, ◌∙◌}
+use mathlib.Core.Bool.{Bool, false, not, ◌||◌}
 use mathlib.Core.Logic.{⊎_elim}
 use Prim.Native.Nat.{ℕ, ◌<◌}
 use lib.Dec.{T, ltb, ltb→lt, eqb, eqb→eq}
 use lib.IntN.{ℤ, pos, negsuc}
 use Rattle.laws.proofs.Truth.{and_left, and_right, or_either, false_T, T_false}
-use Rattle.laws.proofs.Finite.{all, below, bounded}
+use Rattle.laws.proofs.Finite.{below, bounded}
 use Rattle.laws.proofs.Integers.{over, over-number}
 use Rattle.dvi.specs.Control.{control}
 use Rattle.dvi.specs.Symbol.{in_range, symbol_of, Encodes, DataSymbol}

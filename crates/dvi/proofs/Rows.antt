@@ -1,6 +1,6 @@
 -- Theorems of a row, over the definitions alone: cut anywhere it is the same row, it reads back, and every stretch of it is balanced.
-use mathlib.Core.Path.{◌≡◌, refl, sym, ap, ap₂, ◌∙◌}
-use mathlib.Core.List.{List, [], ◌∷◌, ◌++◌, map}
+use mathlib.Core.Path.{◌≡◌, refl, ap, ap₂, ◌∙◌}
+use mathlib.Core.List.{List, [], ◌∷◌, ◌++◌}
 use Prim.Native.Nat.{ℕ, zero, suc, ◌+◌, ◌*◌, ◌≤◌, ◌<◌}
 use native.Mathlib.Omega.{arith}
 use lib.Dec.{T, leb, leb→le}
@@ -8,8 +8,7 @@ use lib.IntN.{ℤ, pos, nat_abs, ◌+ℤ◌, ◌*ℤ◌}
 use lib.ListN.{length, take, drop, get_or}
 use Rattle.laws.specs.Bytes.{Bytes}
 use Rattle.laws.proofs.Integers.{each, over-number}
-use Rattle.dvi.specs.Decoder.{byte_of, is_data}
-use Rattle.dvi.specs.Encoder.{encoder, value_of}
+use Rattle.dvi.specs.Decoder.{is_data}
 use Rattle.dvi.specs.Plain.{ones_of}
 use Rattle.dvi.specs.Row.{dvi_row, dvi_cnt, row_symbols, row_end, row_ones, row_bytes}
 use Rattle.dvi.specs.Symbol.{in_range, symbol_of, next_of}

@@ -1,16 +1,15 @@
 -- The laws of the symbol that callers use: its range, the discrepancy after it, and that the plain words and the chart agree. Each is one test
 -- computed at all 2,304 places of a byte and a discrepancy.
-use mathlib.Core.Path.{◌≡◌, refl, sym, ◌∙◌}
-use mathlib.Core.Bool.{Bool, cond}
-use Prim.Native.Nat.{ℕ, ◌+◌, ◌*◌, ◌/◌, ◌<◌, ◌≤◌, ◌^◌}
-use native.Mathlib.Omega.{arith}
+use mathlib.Core.Path.{◌≡◌, sym}
+use mathlib.Core.Bool.{cond}
+use Prim.Native.Nat.{ℕ, ◌<◌, ◌^◌}
 use lib.Bits.{bit_xor}
-use lib.Dec.{T, leb, ltb, ltb→lt}
-use lib.IntN.{ℤ, pos, negsuc, ◌+ℤ◌, ◌-ℤ◌, ◌*ℤ◌}
+use lib.Dec.{T, ltb, ltb→lt}
+use lib.IntN.{ℤ, pos, ◌+ℤ◌, ◌-ℤ◌, ◌*ℤ◌}
 use lib.Signed.{mag}
 use mir.Syntax.{w32}
 use mir.Val.{SFits}
-use Rattle.laws.proofs.Finite.{all, agreed_tests, bounded}
+use Rattle.laws.proofs.Finite.{agreed_tests, bounded}
 use Rattle.laws.proofs.Integers.{each, over, over-number, over-integer, over-bound}
 use Rattle.dvi.specs.Encoder.{bits_of, encoder, qm8, qm_of, complemented}
 use Rattle.dvi.specs.Symbol.{in_range, symbol_of, next_of}

@@ -1,20 +1,19 @@
 -- How many data symbols there are: 460 of the 1,024 numbers of ten bits; 204 bytes have two, 52 have one.
 use mathlib.Core.Path.{◌≡◌, refl, sym, ◌∙◌}
-use mathlib.Core.Bool.{Bool, true, false, not, ◌&&◌, ◌||◌}
+use mathlib.Core.Bool.{Bool, true, false, not, ◌||◌}
 use mathlib.Core.Logic.{◌⊎◌, ⊎_elim, inl, inr}
 use Prim.Native.Nat.{ℕ, ◌<◌}
-use native.Mathlib.Omega.{arith}
-use lib.Dec.{T, T_not, eqb, eqb→eq}
+use lib.Dec.{T, eqb, eqb→eq}
 use lib.IntN.{ℤ, pos, negsuc}
 use borrow.Author.Tests.{eq-eqb, not-true, not-false}
 use Rattle.laws.specs.Count.{Count}
-use Rattle.laws.proofs.Truth.{T_true, true_T, false_T, and_left, and_right, or_either}
+use Rattle.laws.proofs.Truth.{true_T, false_T, or_either}
 use Rattle.laws.proofs.Finite.{below}
 use Rattle.laws.proofs.Integers.{span, each}
 use Rattle.laws.proofs.Counting.{tally, tallied}
 use Rattle.dvi.specs.Symbol.{in_range, symbol_of, DataSymbol}
 use Rattle.dvi.specs.Decoder.{byte_of, is_data}
-use Rattle.dvi.specs.Tally.{Has, OneSymbol, TwoSymbols}
+use Rattle.dvi.specs.Tally.{OneSymbol, TwoSymbols}
 use Rattle.dvi.proofs.Decoding.{test_data, not_data}
 
 data_tally : tally is_data 1024 ≡ 460

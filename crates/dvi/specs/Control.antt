@@ -1,5 +1,5 @@
 -- DVI 1.0, section 3.3 (Control coding): the symbols sent while no pixels are.
-use Rattle.std.specs.Prelude.{Bool, true, false, List, [], ◌∷◌, ℕ, ◌+◌, ◌*◌, get_or}
+use Rattle.std.specs.Prelude.{Bool, true, false, [], ◌∷◌, ℕ, ◌+◌, ◌*◌, get_or}
 
 -- control symbol n, where bit 0 of n is C0 and bit 1 is C1; on lane 0 C0 is HSYNC and C1 is VSYNC
 unfoldable pub control : ℕ → ℕ

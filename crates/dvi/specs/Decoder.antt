@@ -1,6 +1,6 @@
 -- DVI 1.0, section 3.3: the T.M.D.S. decoder, as the flow chart of figure 3-6 draws it. D is the symbol here, Q the byte. The chart takes any ten
 -- bits; which of them are data symbols it doesn't say.
-use Rattle.std.specs.Prelude.{Bool, true, false, not, cond, ◌&&◌, ◌||◌, List, [], ◌∷◌, map, ℕ, ◌/◌, ◌%◌, ltb, eqb, ℤ, pos, negsuc}
+use Rattle.std.specs.Prelude.{Bool, not, cond, ◌&&◌, ◌||◌, List, [], ◌∷◌, map, ℕ, ◌/◌, ◌%◌, ltb, eqb, ℤ, pos, negsuc}
 use Rattle.dvi.specs.Encoder.{bits_of, value_of, XOR, XNOR}
 use Rattle.dvi.specs.Symbol.{symbol_of}
 

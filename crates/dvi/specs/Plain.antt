@@ -1,6 +1,6 @@
 -- The same symbol in fewer words than the chart's, on numbers: t, the ones among bits 1..7 of the byte, picks XOR or XNOR; e, the ones of the
 -- intermediate's low eight bits, and the discrepancy pick the inversion.
-use Rattle.std.specs.Prelude.{Bool, true, false, not, cond, ◌||◌, List, [], ◌∷◌, map, ℕ, ◌+◌, ◌*◌, ◌/◌, ◌%◌, leb, ltb, eqb, ℤ, pos, ◌+ℤ◌, ◌-ℤ◌}
+use Rattle.std.specs.Prelude.{Bool, true, false, not, cond, ◌||◌, List, map, ℕ, ◌+◌, ◌*◌, ◌/◌, leb, ltb, eqb, ℤ, pos, ◌+ℤ◌, ◌-ℤ◌}
 use Rattle.std.specs.Bool.{beq}
 use Rattle.std.specs.Int.Signed.{lt_z}
 use Rattle.dvi.specs.Encoder.{bits_of, value_of, N1, XOR, XNOR, minimized, is_zero}

@@ -12,14 +12,14 @@ ghost use Rattle.fields.specs.VideoCode.{code_number, code_decided};
 use refusal::Refusal;
 
 // S: how the picture is scanned.
-#[derive(Drop)]
+#[derive(Clone, Copy)]
 pub enum ScanInfo {
     NoData,
     Overscan,
     Underscan,
 }
 
-#[derive(Drop)]
+#[derive(Clone, Copy)]
 pub enum ScanInfoChoice {
     Listed(ScanInfo),
     Refused(Refusal),
@@ -50,14 +50,14 @@ impl ScanInfo {
 }
 
 // Y: how a pixel is coded.
-#[derive(Drop)]
+#[derive(Clone, Copy)]
 pub enum PixelFormat {
     Rgb,
     Ycbcr422,
     Ycbcr444,
 }
 
-#[derive(Drop)]
+#[derive(Clone, Copy)]
 pub enum PixelFormatChoice {
     Listed(PixelFormat),
     Refused(Refusal),
@@ -88,7 +88,7 @@ impl PixelFormat {
 }
 
 // C: the colour space.
-#[derive(Drop)]
+#[derive(Clone, Copy)]
 pub enum Colorimetry {
     NoData,
     Itu601,
@@ -96,7 +96,7 @@ pub enum Colorimetry {
     Extended,
 }
 
-#[derive(Drop)]
+#[derive(Clone, Copy)]
 pub enum ColorimetryChoice {
     Listed(Colorimetry),
     Refused(Refusal),
@@ -129,14 +129,14 @@ impl Colorimetry {
 }
 
 // M: the aspect ratio of the whole picture.
-#[derive(Drop)]
+#[derive(Clone, Copy)]
 pub enum PictureAspectRatio {
     NoData,
     Ratio4_3,
     Ratio16_9,
 }
 
-#[derive(Drop)]
+#[derive(Clone, Copy)]
 pub enum PictureAspectRatioChoice {
     Listed(PictureAspectRatio),
     Refused(Refusal),
@@ -167,7 +167,7 @@ impl PictureAspectRatio {
 }
 
 // R: the aspect ratio of the part that shows something. `NoData` is 0: the 255 of data_island.rs would run over M and C.
-#[derive(Drop)]
+#[derive(Clone, Copy)]
 pub enum ActiveFormatAspectRatio {
     NoData,
     SameAsPar,
@@ -176,7 +176,7 @@ pub enum ActiveFormatAspectRatio {
     Ratio14_9,
 }
 
-#[derive(Drop)]
+#[derive(Clone, Copy)]
 pub enum ActiveFormatAspectRatioChoice {
     Listed(ActiveFormatAspectRatio),
     Refused(Refusal),
@@ -224,14 +224,14 @@ impl ActiveFormatAspectRatio {
 }
 
 // Q: the range of the levels.
-#[derive(Drop)]
+#[derive(Clone, Copy)]
 pub enum QuantizationRange {
     Default,
     Limited,
     Full,
 }
 
-#[derive(Drop)]
+#[derive(Clone, Copy)]
 pub enum QuantizationRangeChoice {
     Listed(QuantizationRange),
     Refused(Refusal),
@@ -262,13 +262,13 @@ impl QuantizationRange {
 }
 
 // The video code: size and rate.
-#[derive(Drop)]
+#[derive(Clone, Copy)]
 pub enum VideoCode {
     Code640x480P60,
     Code720x480P60,
 }
 
-#[derive(Drop)]
+#[derive(Clone, Copy)]
 pub enum VideoCodeChoice {
     Listed(VideoCode),
     Refused(Refusal),

@@ -1,9 +1,9 @@
 -- What one control character tells: its lanes, its sync pair, and whether it announces video, an island or nothing. And the words for VGA's idle levels.
 use mathlib.Core.Path.{◌≡◌, refl, sym, ap, ◌∙◌}
 use mathlib.Core.Bool.{Bool, true, false}
-use Prim.Native.Nat.{ℕ, ◌+◌, ◌*◌, ◌^◌, ◌<◌}
+use Prim.Native.Nat.{ℕ, ◌^◌, ◌<◌}
 use native.Mathlib.Omega.{arith}
-use lib.Dec.{T, eqb, eqb→eq}
+use lib.Dec.{eqb, eqb→eq}
 use borrow.Author.Tests.{eq-eqb}
 use Rattle.laws.proofs.Truth.{entails, entailed, true_T}
 use Rattle.laws.proofs.Finite.{all, below, bounded}

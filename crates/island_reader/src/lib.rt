@@ -14,7 +14,7 @@ ghost use Rattle.island_reader.specs.Read.{nowhere, high_ask, guard_ask, lane_as
 use refusal::{Refusal, Verdict};
 use symbol::Tmds3;
 
-#[derive(Drop)]
+#[derive(Clone, Copy)]
 pub enum IslandRead {
     SyncPair(u8),
     Refused(Refusal),

@@ -1,5 +1,5 @@
 -- What each operation on a word does to one bit of it, and that a number is its bits.
-use mathlib.Core.Path.{◌≡◌, refl, sym, ap, ap₂, ◌∙◌}
+use mathlib.Core.Path.{◌≡◌, sym, ap, ap₂, ◌∙◌}
 use Prim.Native.Nat.{ℕ, zero, suc, ◌+◌, ◌-◌, ◌*◌, ◌/◌, ◌%◌, ◌^◌, ◌≤◌, ◌<◌, min, max}
 use native.Mathlib.Nat.{mul_assoc, mul-mod_left, div-add-mod', div-one, lt_of_lt_of_le, div-eq_of_lt}
 use native.Mathlib.Omega.{arith}

@@ -1,7 +1,7 @@
 -- A test computed at each number below n holds at every number below n.
 use mathlib.Core.Path.{◌≡◌, subst, sym}
 use mathlib.Core.Logic.{⊎_elim}
-use mathlib.Core.Bool.{Bool, true, false, ◌&&◌}
+use mathlib.Core.Bool.{Bool, true, ◌&&◌}
 use Prim.Native.Nat.{ℕ, zero, suc, ◌<◌}
 use native.Mathlib.Nat.{not-suc-le-zero, eq-or-lt_of_le, le_of_suc-le-suc}
 use lib.Dec.{T, eqb, eqb→eq, ltb, ltb→lt}

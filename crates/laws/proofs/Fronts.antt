@@ -1,10 +1,10 @@
 -- How a buffer is filled from its start: nothing yet, one more, and all of it.
 use mathlib.Core.Path.{◌≡◌, refl, sym, ap₂, subst, ◌∙◌}
 use mathlib.Core.List.{List, [], ◌∷◌, ◌++◌}
-use Prim.Native.Nat.{ℕ, suc, ◌+◌, ◌≤◌, ◌<◌}
+use Prim.Native.Nat.{ℕ, ◌+◌, ◌≤◌, ◌<◌}
 use native.Mathlib.Numerals.{add-one}
 use native.Mathlib.Omega.{arith}
-use lib.ListN.{length, get_or, take, set, length-set}
+use lib.ListN.{length, get_or, set, length-set}
 use lib.Seq.{take-suc, take-suc-set, take_all}
 use Rattle.laws.specs.Front.{Front}
 

@@ -1,5 +1,5 @@
 -- Maps that are linear in exclusive or. What such a map makes of the powers of two decides what it makes of every number.
-use mathlib.Core.Path.{◌≡◌, refl, sym, ap, ap₂, ◌∙◌}
+use mathlib.Core.Path.{◌≡◌, sym, ap, ap₂, ◌∙◌}
 use Prim.Native.Nat.{ℕ, zero, suc, ◌*◌, ◌/◌, ◌%◌, ◌^◌, ◌<◌}
 use native.Mathlib.Nat.{add-zero, mod-lt, zero-mul, one-mul}
 use native.Mathlib.Numerals.{one-add}

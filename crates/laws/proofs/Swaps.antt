@@ -1,7 +1,7 @@
 -- Delta swaps: the bits of a mask change places with those a shift above them, and every other bit stays. One law, over the mask, the shift and the
 -- word's width, for one swap; and for any number of them one after the other, where one computed test says that the masks are in order.
 use mathlib.Core.Path.{◌≡◌, refl, sym, ap, ap₂, ◌∙◌}
-use mathlib.Core.Bool.{Bool, true, false, ◌&&◌}
+use mathlib.Core.Bool.{Bool, true, ◌&&◌}
 use mathlib.Core.List.{List, [], ◌∷◌}
 use Prim.Native.Nat.{ℕ, zero, suc, ◌+◌, ◌-◌, ◌*◌, ◌/◌, ◌%◌, ◌^◌, ◌≤◌, ◌<◌, min}
 use native.Mathlib.Decide.{dec_le}

@@ -1,7 +1,7 @@
 -- Tallies in parts: over two stretches, over one on which the test never changes, and from any start of a round.
 use mathlib.Core.Path.{◌≡◌, refl, sym, ap, ap₂, ◌∙◌}
 use mathlib.Core.Bool.{Bool, true, false, cond}
-use Prim.Native.Nat.{ℕ, zero, suc, ◌+◌, ◌-◌, ◌%◌, ◌≤◌, ◌<◌}
+use Prim.Native.Nat.{ℕ, zero, suc, ◌+◌, ◌-◌, ◌%◌, ◌<◌}
 use native.Mathlib.Nat.{mod-eq_of_lt, add-mod_left, add-zero}
 use native.Mathlib.Omega.{arith}
 use Rattle.laws.proofs.Counting.{more, tally}

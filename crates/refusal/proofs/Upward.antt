@@ -7,7 +7,7 @@ use native.Mathlib.Omega.{arith}
 use Rattle.refusal.specs.declared.Refusal.{Refusal}
 use Rattle.refusal.specs.declared.Verdict.{Verdict}
 use Rattle.refusal.specs.declared.Verdict.TheVariants.{Fine, Refused}
-use Rattle.refusal.specs.Verdict.{Ask, ask, unless, verdict, answered, kept, and_then}
+use Rattle.refusal.specs.Verdict.{Ask, ask, unless, verdict, answered, kept}
 use Rattle.refusal.proofs.Verdicts.{joined, stops, goes_on}
 
 module _ {v : Verdict} (qs ps : List Ask) (e : v ≡ verdict qs) where

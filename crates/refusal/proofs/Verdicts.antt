@@ -1,7 +1,7 @@
 -- What a verdict says: refused exactly when a question fails, with a refusal that applies and that no lower one goes before; and how verdicts
 -- are joined.
-use mathlib.Core.Path.{◌≡◌, refl, sym, ap, ◌∙◌}
-use mathlib.Core.Bool.{Bool, true, false, ◌&&◌}
+use mathlib.Core.Path.{◌≡◌, refl, sym, ap}
+use mathlib.Core.Bool.{Bool, true, false}
 use mathlib.Core.List.{List, [], ◌∷◌, ◌++◌}
 use Prim.Native.Nat.{ℕ, ◌≤◌}
 use native.Mathlib.Omega.{arith}
@@ -10,8 +10,8 @@ use Rattle.laws.proofs.Truth.{and_left, and_right}
 use Rattle.refusal.specs.declared.Refusal.{Refusal}
 use Rattle.refusal.specs.declared.Verdict.{Verdict}
 use Rattle.refusal.specs.declared.Verdict.TheVariants.{Fine, Refused}
-use Rattle.refusal.specs.Refusal.{number_of, place_of}
-use Rattle.refusal.specs.Verdict.{Ask, ask, unless, verdict, answered, kept, verdict_number, rising, and_then}
+use Rattle.refusal.specs.Refusal.{number_of}
+use Rattle.refusal.specs.Verdict.{Ask, unless, verdict, rising, and_then}
 
 -- a question of the list fails, with the refusal r
 pub data Fails : List Ask → Refusal → Type 0 where

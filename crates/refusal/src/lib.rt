@@ -1,10 +1,12 @@
 // The seventeen refusals, and the verdict that an entry passes on its arguments.
+#![tactic(auto)]
+
 ghost use Rattle.std.specs.Prelude.{◌≡◌};
 ghost use Rattle.refusal.specs.Refusal.{number_of, place_of};
 ghost use Rattle.refusal.specs.Verdict.{verdict_number, verdict_place};
 
 // One variant for each number, in the table's order; with the place where the table has one.
-#[derive(Drop)]
+#[derive(Clone, Copy)]
 pub enum Refusal {
     // 1: a lent slice has the wrong length.
     Length,
@@ -95,7 +97,7 @@ impl Refusal {
 }
 
 // What an entry thinks of its arguments before it writes anything; also the whole answer of an entry that returns no value.
-#[derive(Drop)]
+#[derive(Clone, Copy)]
 pub enum Verdict {
     Fine,
     Refused(Refusal),

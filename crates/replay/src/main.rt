@@ -43,7 +43,7 @@ fn agrees(kind: usize, c: &[u8]) -> bool {
     }
 }
 
-#[derive(Drop)]
+#[derive(Clone, Copy)]
 enum Outcome {
     Agrees,
     Differs,
@@ -123,7 +123,7 @@ fn case(kinds: &[u8], line: &[u8], number: u64, counts: &mut [u64; 48]) -> bool 
     }
 }
 
-#[derive(Drop)]
+#[derive(Clone, Copy)]
 struct Totals {
     cases: u64,
     different: u64,

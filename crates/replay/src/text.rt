@@ -62,7 +62,7 @@ pub fn place(words: &[u8], word: &[u8]) -> usize {
 }
 
 // How many bytes were read, and whether the text spells bytes and nothing else.
-#[derive(Drop)]
+#[derive(Clone, Copy)]
 pub struct Spelled {
     pub count: usize,
     pub whole: bool,

@@ -16,7 +16,7 @@ use refusal::{Refusal, Verdict};
 use tables::WORDS;
 
 // One step along a row: the symbol that goes out, and what holds the discrepancy after it.
-#[derive(Drop)]
+#[derive(Clone, Copy)]
 struct Stepped {
     symbol: u16,
     state: u32,
@@ -93,7 +93,7 @@ fn encode_verdict(discrepancy: i32, row: usize, room: usize) -> Verdict
     Verdict::Fine
 }
 
-#[derive(Drop)]
+#[derive(Clone, Copy)]
 pub enum RowEncoded {
     // The discrepancy after the row, with which the next piece begins.
     Done(i32),

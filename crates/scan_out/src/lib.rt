@@ -9,7 +9,7 @@ use refusal::Verdict;
 use timing::DviTiming;
 
 // The counter after one advance, and what was said of it.
-#[derive(Drop)]
+#[derive(Clone, Copy)]
 pub struct Stepped {
     pub state: DviTimingState,
     pub verdict: Verdict,

@@ -1,16 +1,15 @@
 -- Each bound of the room at its edge: what is accepted last, and what is refused first.
 use mathlib.Core.Path.{◌≡◌, refl}
 use Prim.Native.Nat.{ℕ}
-use lib.IntN.{ℤ, pos, negsuc}
+use lib.IntN.{pos, negsuc}
 use Rattle.dvi.specs.Symbol.{symbol_of, next_of, DataSymbol}
 use Rattle.dvi.specs.Decoder.{byte_of, is_data}
 use Rattle.dvi.proofs.Decoding.{data_small}
 use Rattle.refusal.specs.declared.Refusal.TheVariants.{Discrepancy, Unlisted}
 use Rattle.symbol.specs.declared.Encoded.TheVariants as encoded
 use Rattle.symbol.specs.declared.Joined.TheVariants as joined
-use Rattle.symbol.specs.declared.SymbolRead.TheVariants as read
 use Rattle.symbol.specs.Encode.{encode_of}
-use Rattle.symbol.specs.Pair.{pair_word, join_of}
+use Rattle.symbol.specs.Pair.{join_of}
 use native.Mathlib.Omega.{arith}
 
 -- 4 and -4 are answered, whatever the byte; 5 and -5 are refused, and handed back

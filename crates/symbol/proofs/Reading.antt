@@ -5,7 +5,6 @@ use lib.Dec.{T}
 use lib.IntN.{ℤ}
 use Rattle.dvi.specs.Symbol.{in_range, symbol_of}
 use Rattle.dvi.proofs.Decoding.{one_byte}
-use Rattle.refusal.specs.declared.Refusal.TheVariants.{NotData}
 use Rattle.symbol.specs.declared.SymbolRead.{SymbolRead}
 use Rattle.symbol.specs.declared.SymbolRead.TheVariants.{Byte, Refused}
 use Rattle.symbol.specs.Read.{Reads}

@@ -1,5 +1,5 @@
 -- Two symbols in a word, and what each entry on pairs answers.
-use Rattle.std.specs.Prelude.{Bool, ◌&&◌, List, [], ◌∷◌, ℕ, ◌+◌, ◌*◌, ◌^◌, ltb, ℤ, pos}
+use Rattle.std.specs.Prelude.{◌&&◌, List, [], ◌∷◌, ℕ, ◌+◌, ◌*◌, ◌^◌, ltb, ℤ, pos}
 use Rattle.dvi.specs.Encoder.{is_zero}
 use Rattle.dvi.specs.Symbol.{symbol_of, next_of}
 use Rattle.refusal.specs.declared.Refusal.TheVariants.{Unlisted, Unbalanced}

@@ -1,4 +1,6 @@
 // The TMDS symbol of DVI 1.0, two symbols in a word, and three lanes in a word. After tmds.rs, with a reader that it lacks.
+#![tactic(auto)]
+
 ghost use Rattle.std.specs.Prelude.{◌≡◌, ◌*◌, ◌%◌, ◌<◌, cond, T, pos, ◌*ℤ◌};
 ghost use Rattle.std.specs.Int.Bits.{bit_xor};
 ghost use Rattle.dvi.specs.Encoder.{qm_of, complemented};
@@ -12,15 +14,15 @@ ghost use Rattle.symbol.specs.Pair.{pair_word, join_of, word_of, end_of, balance
 use refusal::Refusal;
 
 // The ten bits that one lane carries in a pixel clock. Any sixteen bits may stand here: who takes one apart says what it refuses.
-#[derive(Drop)]
+#[derive(Clone, Copy)]
 pub struct TmdsSymbol(pub u16);
 
 // Two symbols packed for serialization, the first in bits 0..9, the second in 10..19.
-#[derive(Drop)]
+#[derive(Clone, Copy)]
 pub struct TmdsPair(pub u32);
 
 // One symbol on each of the three lanes: lane 0 in bits 0..9, lane 1 in 10..19, lane 2 in 20..29.
-#[derive(Drop)]
+#[derive(Clone, Copy)]
 pub struct Tmds3(pub u32);
 
 impl Tmds3 {
@@ -81,7 +83,7 @@ fn sent(discrepancy: i32, word: u32) -> u32
 }
 
 // One step of a lane: the symbol that goes out, and the discrepancy after it.
-#[derive(Drop)]
+#[derive(Clone, Copy)]
 struct Stepped {
     symbol: u16,
     discrepancy: i32,
@@ -99,7 +101,7 @@ fn step(discrepancy: i32, byte: u8) -> Stepped
     }
 }
 
-#[derive(Drop)]
+#[derive(Clone, Copy)]
 pub enum Encoded {
     // The symbol, and the lane's discrepancy after it.
     Symbol(TmdsSymbol, i32),
@@ -127,7 +129,7 @@ fn is_data(symbol: u32) -> bool
     (word == low ^ (bit_8 * 0x100)) & ((u32::count_ones(low) != 4) | (bit_9 != bit_8))
 }
 
-#[derive(Drop)]
+#[derive(Clone, Copy)]
 pub enum SymbolRead {
     Byte(u8),
     Refused(Refusal),
@@ -181,14 +183,14 @@ impl TmdsSymbol {
 }
 
 // Two symbols joined, or why not.
-#[derive(Drop)]
+#[derive(Clone, Copy)]
 pub enum Joined {
     Pair(TmdsPair),
     Refused(Refusal),
 }
 
 // A pair with the discrepancy that it leaves a lane at, which stood at 0.
-#[derive(Drop)]
+#[derive(Clone, Copy)]
 pub struct PairEnd {
     pub pair: TmdsPair,
     pub discrepancy: i32,

@@ -60,13 +60,13 @@ const NUMBERS: [u8; 1024] = [
     16, 16, 16, 16, 16, 16, 16, 16, 16, 16, 16, 16, 16, 16, 16, 16,
 ];
 
-#[derive(Drop)]
+#[derive(Clone, Copy)]
 pub enum Terc4 {
     Symbol(TmdsSymbol),
     Refused(Refusal),
 }
 
-#[derive(Drop)]
+#[derive(Clone, Copy)]
 pub enum Terc4Number {
     Number(u8),
     Refused(Refusal),

@@ -12,7 +12,7 @@ use refusal::{Refusal, Verdict};
 use symbol::{Tmds3, TmdsSymbol};
 
 // A display mode. Polarities are 0 (negative) or 1 (positive), the bit clock is in kilohertz.
-#[derive(Drop)]
+#[derive(Clone, Copy)]
 pub struct DviTiming {
     pub h_front_porch: u32,
     pub h_sync_width: u32,
@@ -48,7 +48,7 @@ pub fn vga_timing() -> DviTiming
     VGA_TIMING
 }
 
-#[derive(Drop)]
+#[derive(Clone, Copy)]
 pub enum CommandWord {
     Word(u32),
     Refused(Refusal),
@@ -127,7 +127,7 @@ pub fn data_preamble(h: bool, v: bool) -> Tmds3
     control_lanes(h, v, true, true)
 }
 
-#[derive(Drop)]
+#[derive(Clone, Copy)]
 pub enum SyncWord {
     Word(Tmds3),
     Refused(Refusal),
@@ -203,7 +203,7 @@ impl DviTiming {
 }
 
 // What a line is to the display, in the order in which they come from the counter's 0 on.
-#[derive(Drop)]
+#[derive(Clone, Copy)]
 pub enum DviTimingLineState {
     FrontPorch,
     Sync,

@@ -4,7 +4,7 @@ ghost use Rattle.std.specs.Prelude.{◌≡◌, length};
 use libc::{STDIN_FILENO, STDOUT_FILENO};
 use row::RowEncoded;
 
-#[derive(Drop)]
+#[derive(Clone, Copy)]
 enum Turn {
     // There may be more: the discrepancy to go on from.
     More(i32),
