@@ -4,10 +4,9 @@ use Prim.Native.Nat.{ℕ, ◌+◌, ◌*◌, ◌%◌, ◌^◌, ◌<◌}
 use native.Mathlib.Omega.{arith}
 use lib.Bits.{bit_or}
 use Rattle.laws.proofs.Digits.{or_above}
-use Rattle.island.proofs.join.Statement.{statement}
-use Rattle.island.proofs.join.Tie as tie
+use Rattle.island.proofs.join.Goals as goal
 
-returns : tie.Need-returns
+pub returns : goal.returns
 returns x =
     let a : ℕ = x.args.a in
     let b : ℕ = x.args.b in
@@ -22,6 +21,3 @@ returns x =
     ap (λ (y : ℕ). bit_or (bit_or y (c * 2 ^ 16 % 2 ^ 32)) (d * 2 ^ 24 % 2 ^ 32)) (or_above 32 8 a b ha (omega arith))
     ∙ ap (λ (y : ℕ). bit_or y (d * 2 ^ 24 % 2 ^ 32)) (or_above 32 16 two c (omega arith) (omega arith))
     ∙ or_above 32 24 three d (omega arith) (omega arith) ∙ omega arith
-
-pub join-spec : {M : Type 1} → statement M
-join-spec = tie.close (tie.spec returns)
