@@ -1,6 +1,6 @@
 -- What a refused row hands back. (Its bounds at their edges: row/proofs/Edges.antt.)
 use mathlib.Core.Path.{◌≡◌, refl}
-use mathlib.Core.List.{List, [], ◌∷◌}
+use mathlib.Core.List.{[], ◌∷◌}
 use lib.IntN.{ℤ, pos, negsuc}
 use Rattle.dvi.specs.Decoder.{is_data, byte_of}
 use Rattle.dvi.specs.Symbol.{symbol_of}

@@ -1,4 +1,6 @@
 // Rows of one lane on bytes: a symbol is two, the low byte first.
+#![tactic(auto)]
+
 ghost use Rattle.std.specs.Prelude.{◌≡◌, length};
 ghost use Rattle.refusal.specs.Verdict.{verdict};
 ghost use Rattle.row.specs.Wire.{encode_bytes_of, encode_bytes_out};

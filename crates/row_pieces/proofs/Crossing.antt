@@ -50,23 +50,23 @@ crossing = record {
 
 pub cut_anywhere : (d : ℤ) (ps : List Piece) → T (in_range d) → Bytes (joined ps) → Each FitsOut ps
     → EncodedC d ps (bytes_of 2 (row_symbols d (joined ps))) (row_end d (joined ps))
-cut_anywhere = calls.cut-anywhere crossing
+cut_anywhere = calls.cut_anywhere crossing
 
 pub cut_is_dvi : (d : ℤ) (ps : List Piece) → T (in_range d) → Bytes (joined ps) → Each FitsOut ps
     → (e : ℤ) × EncodedC d ps (bytes_of 2 (dvi_row (pos 2 *ℤ d) (joined ps))) e × (pos 2 *ℤ e ≡ dvi_cnt (pos 2 *ℤ d) (joined ps))
-cut_is_dvi = calls.cut-is-dvi crossing
+cut_is_dvi = calls.cut_is_dvi crossing
 
 pub one_outcome : {d e f : ℤ} {ps : List Piece} {vs ws : List ℕ} → EncodedC d ps vs e → EncodedC d ps ws f → (vs ≡ ws) × (e ≡ f)
-one_outcome = calls.one-outcome crossing
+one_outcome = calls.one_outcome crossing
 
 pub reads_anywhere : (d : ℤ) (bs : List ℕ) (qs : List Piece) → T (in_range d) → Bytes bs → Each FitsIn qs → joined qs ≡ bytes_of 2 (row_symbols d bs) → ReadC qs bs
-reads_anywhere = calls.reads-anywhere crossing
+reads_anywhere = calls.reads_anywhere crossing
 
 pub written_reads_back : {d e : ℤ} {ps qs : List Piece} {ws : List ℕ} → T (in_range d) → Bytes (joined ps) → Each FitsOut ps → EncodedC d ps ws e
     → Each FitsIn qs → joined qs ≡ ws → ReadC qs (joined ps)
-written_reads_back = calls.written-reads-back crossing
+written_reads_back = calls.written_reads_back crossing
 
 pub stretch_balanced : {d e : ℤ} {ps : List Piece} {ws : List ℕ} (m n : ℕ) → T (in_range d) → Bytes (joined ps) → Each FitsOut ps → EncodedC d ps ws e
     → (row_ones (take n (drop m (symbols_in ws))) ≤ 5 * length (take n (drop m (symbols_in ws))) + 8)
     × (5 * length (take n (drop m (symbols_in ws))) ≤ row_ones (take n (drop m (symbols_in ws))) + 8)
-stretch_balanced = calls.stretch-balanced crossing
+stretch_balanced = calls.stretch_balanced crossing

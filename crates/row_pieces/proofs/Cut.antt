@@ -63,27 +63,27 @@ symbols = record {
 -- every call is answered, and together they give the uncut row
 pub cut_anywhere : (d : ℤ) (ps : List Piece) → T (in_range d) → Bytes (joined ps) → Each Fits ps
     → Encoded d ps (row_symbols d (joined ps)) (row_end d (joined ps))
-cut_anywhere = calls.cut-anywhere symbols
+cut_anywhere = calls.cut_anywhere symbols
 
 -- in DVI 1.0's own count: its row from Cnt = 2d, and an end that is half of the count it leaves
 pub cut_is_dvi : (d : ℤ) (ps : List Piece) → T (in_range d) → Bytes (joined ps) → Each Fits ps
     → (e : ℤ) × Encoded d ps (dvi_row (pos 2 *ℤ d) (joined ps)) e × (pos 2 *ℤ e ≡ dvi_cnt (pos 2 *ℤ d) (joined ps))
-cut_is_dvi = calls.cut-is-dvi symbols
+cut_is_dvi = calls.cut_is_dvi symbols
 
 -- the calls have one outcome
 pub one_outcome : {d e f : ℤ} {ps : List Piece} {ss ts : List ℕ} → Encoded d ps ss e → Encoded d ps ts f → (ss ≡ ts) × (e ≡ f)
-one_outcome = calls.one-outcome symbols
+one_outcome = calls.one_outcome symbols
 
 -- the symbols of a row, cut anew in pieces of at most 4,096, are all read and give the row
 pub reads_anywhere : (d : ℤ) (bs : List ℕ) (qs : List Piece) → T (in_range d) → Bytes bs → Each Fits qs → joined qs ≡ row_symbols d bs → Read qs bs
-reads_anywhere = calls.reads-anywhere symbols
+reads_anywhere = calls.reads_anywhere symbols
 
 -- what the encoder's calls wrote, cut anew and read by calls, is the row that was encoded
 pub written_reads_back : {d e : ℤ} {ps qs : List Piece} {ss : List ℕ} → T (in_range d) → Bytes (joined ps) → Each Fits ps → Encoded d ps ss e
     → Each Fits qs → joined qs ≡ ss → Read qs (joined ps)
-written_reads_back = calls.written-reads-back symbols
+written_reads_back = calls.written_reads_back symbols
 
 -- any n symbols in a row of what the calls wrote, from index m on
 pub stretch_balanced : {d e : ℤ} {ps : List Piece} {ss : List ℕ} (m n : ℕ) → T (in_range d) → Bytes (joined ps) → Each Fits ps → Encoded d ps ss e
     → (row_ones (take n (drop m ss)) ≤ 5 * length (take n (drop m ss)) + 8) × (5 * length (take n (drop m ss)) ≤ row_ones (take n (drop m ss)) + 8)
-stretch_balanced = calls.stretch-balanced symbols
+stretch_balanced = calls.stretch_balanced symbols

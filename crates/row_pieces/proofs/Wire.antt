@@ -106,23 +106,23 @@ bytes = record {
 
 pub cut_anywhere : (d : ℤ) (ps : List Piece) → T (in_range d) → Bytes (joined ps) → Each FitsOut ps
     → EncodedBytes d ps (bytes_of 2 (row_symbols d (joined ps))) (row_end d (joined ps))
-cut_anywhere = calls.cut-anywhere bytes
+cut_anywhere = calls.cut_anywhere bytes
 
 pub cut_is_dvi : (d : ℤ) (ps : List Piece) → T (in_range d) → Bytes (joined ps) → Each FitsOut ps
     → (e : ℤ) × EncodedBytes d ps (bytes_of 2 (dvi_row (pos 2 *ℤ d) (joined ps))) e × (pos 2 *ℤ e ≡ dvi_cnt (pos 2 *ℤ d) (joined ps))
-cut_is_dvi = calls.cut-is-dvi bytes
+cut_is_dvi = calls.cut_is_dvi bytes
 
 pub one_outcome : {d e f : ℤ} {ps : List Piece} {vs ws : List ℕ} → EncodedBytes d ps vs e → EncodedBytes d ps ws f → (vs ≡ ws) × (e ≡ f)
-one_outcome = calls.one-outcome bytes
+one_outcome = calls.one_outcome bytes
 
 pub reads_anywhere : (d : ℤ) (bs : List ℕ) (qs : List Piece) → T (in_range d) → Bytes bs → Each FitsIn qs → joined qs ≡ bytes_of 2 (row_symbols d bs) → ReadBytes qs bs
-reads_anywhere = calls.reads-anywhere bytes
+reads_anywhere = calls.reads_anywhere bytes
 
 pub written_reads_back : {d e : ℤ} {ps qs : List Piece} {ws : List ℕ} → T (in_range d) → Bytes (joined ps) → Each FitsOut ps → EncodedBytes d ps ws e
     → Each FitsIn qs → joined qs ≡ ws → ReadBytes qs (joined ps)
-written_reads_back = calls.written-reads-back bytes
+written_reads_back = calls.written_reads_back bytes
 
 pub stretch_balanced : {d e : ℤ} {ps : List Piece} {ws : List ℕ} (m n : ℕ) → T (in_range d) → Bytes (joined ps) → Each FitsOut ps → EncodedBytes d ps ws e
     → (row_ones (take n (drop m (symbols_in ws))) ≤ 5 * length (take n (drop m (symbols_in ws))) + 8)
     × (5 * length (take n (drop m (symbols_in ws))) ≤ row_ones (take n (drop m (symbols_in ws))) + 8)
-stretch_balanced = calls.stretch-balanced bytes
+stretch_balanced = calls.stretch_balanced bytes

@@ -1,4 +1,4 @@
-// The numbers of ten bits that are data symbols, a bit for each, 32 to a word. The rule stands in crates/charts (`mapOf`).
+// The numbers of ten bits that are data symbols, a bit for each, 32 to a word. The rule stands in crates/charts (`map_of`).
 pub const DATA: [u32; 32] = [
     0x930b7bff, // from 0x000
     0xe983800b, // from 0x020
