@@ -1,4 +1,6 @@
 // The audio sample packet on bytes: a sample is two, the low byte first.
+#![tactic(auto)]
+
 ghost use Rattle.std.specs.Prelude.{◌≡◌, ◌+◌, ◌*◌, ◌/◌, ◌≤◌, ◌<◌, pos, nat_abs, length, take, drop};
 ghost use Rattle.laws.specs.Bytes.{from_low};
 ghost use Rattle.hdmi.specs.Audio.{frames, audio_packet, count_after};

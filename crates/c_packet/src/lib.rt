@@ -1,4 +1,6 @@
 // Parity, and packets of 36 bytes, on numbers and bytes.
+#![tactic(auto)]
+
 ghost use Rattle.std.specs.Prelude.{◌≡◌, pos};
 ghost use Rattle.hdmi.specs.Clock.{clock_packet};
 ghost use Rattle.hdmi.specs.Info.{audio_info_frame, avi_info_frame};
