@@ -1,8 +1,6 @@
 -- The row of the counter's line, carried over.
-use mathlib.Core.Path.{ap, ◌∙◌}
+use mathlib.Core.Path.{ap}
 use Rattle.counter.specs.Counter.{counter_at}
-use Rattle.c_counter.specs.Crossing.{shown}
-use borrow.Author.Rules.{rules}
 use Rattle.c_counter.proofs.counter_row.Goals as goal
 
 pub returns : goal.returns
