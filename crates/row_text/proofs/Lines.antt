@@ -7,7 +7,7 @@ use native.Mathlib.Omega.{arith}
 use lib.ListN.{length, take, drop, get_or, drop_of_length-le}
 use lib.Seq.{sets, drop-cons, take_all}
 use Rattle.laws.proofs.Runs.{take-sets}
-use Rattle.row_text.specs.Text.{digit_of, line_of, text_of}
+use Rattle.row_text.specs.Text.{line_of, text_of}
 
 pub one_line_more : (ss out : List ℕ) (i : ℕ) → i < length ss → 4 * i + 4 ≤ length out
     → take (4 * (i + 1)) (sets out (4 * i) (line_of (get_or ss i 0))) ++ text_of (drop (i + 1) ss) ≡ take (4 * i) out ++ text_of (drop i ss)

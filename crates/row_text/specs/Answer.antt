@@ -1,5 +1,5 @@
 -- What encoding a row as text answers, and what it leaves in the two buffers that it is lent.
-use Rattle.std.specs.Prelude.{Bool, ◌&&◌, List, [], ◌∷◌, ℕ, ◌*◌, leb, eqb, ℤ, length}
+use Rattle.std.specs.Prelude.{Bool, ◌&&◌, List, ◌∷◌, ℕ, ◌*◌, leb, eqb, ℤ, length}
 use Rattle.dvi.specs.Row.{row_symbols, row_end}
 use Rattle.refusal.specs.declared.Refusal.TheVariants.{Length}
 use Rattle.refusal.specs.Verdict.{Ask, ask, verdict, answered, kept}

@@ -1,4 +1,6 @@
 // A row's symbols as lines of text: three lower-case hexadecimal digits and a line feed each.
+#![tactic(auto)]
+
 ghost use Rattle.std.specs.Prelude.{◌≡◌, ◌+◌, ◌*◌, ◌<◌, ◌%◌, length, get_or};
 ghost use Rattle.std.proofs.lemmas.List.Edits.{sets};
 ghost use Rattle.row_text.specs.Text.{digit_of, line_of, text_of};
