@@ -1,4 +1,6 @@
 // The audio sample packet of data_island.rs. All 36 bytes are fixed, whatever the packet held.
+#![tactic(auto)]
+
 ghost use Rattle.std.specs.Prelude.{◌≡◌, [], ◌∷◌, ◌+◌, ◌-◌, ◌*◌, ◌/◌, ◌%◌, ◌^◌, ◌≤◌, ◌<◌, eqb, pos, nat_abs, length};
 ghost use Rattle.refusal.specs.Verdict.{verdict, answered, kept};
 ghost use Rattle.hdmi.specs.Parity.{with_parity};

@@ -2,26 +2,23 @@
 -- number says, from whichever line it started.
 use mathlib.Core.Path.{◌≡◌, refl, sym, ap, subst, ◌∙◌}
 use mathlib.Core.Bool.{Bool, true, false}
-use mathlib.Core.List.{[], ◌∷◌}
 use Prim.Native.Nat.{ℕ, zero, suc, ◌+◌, ◌%◌, ◌<◌}
 use native.Mathlib.Nat.{mod-lt, mod-eq_of_lt, mod-add-mod, add-mod_right, add-zero}
 use native.Mathlib.Omega.{arith}
 use borrow.Author.Tests.{lt-ltb}
 use Rattle.laws.specs.Count.{Count}
-use Rattle.laws.proofs.Counting.{tally, tallied}
+use Rattle.laws.proofs.Counting.{tallied}
 use Rattle.laws.proofs.Tallies.{tally_round}
 use Rattle.refusal.specs.declared.Refusal.TheVariants.{LineCounter}
 use Rattle.refusal.specs.declared.Verdict.TheVariants.{Fine}
-use Rattle.refusal.specs.Verdict.{verdict, answered}
+use Rattle.refusal.specs.Verdict.{verdict}
 use Rattle.timing.specs.declared.DviTiming.{DviTiming}
 use Rattle.timing.specs.declared.DviTimingLineState.{DviTimingLineState}
 use Rattle.timing.specs.LineState.{lines_in, state_at}
 use Rattle.timing.specs.Timing.{total, timing_asks}
 use Rattle.refusal.proofs.Upward.{continued, passes, answers}
 use Rattle.counter.specs.declared.DviTimingState.{DviTimingState}
-use Rattle.counter.specs.declared.Advanced.{Advanced}
 use Rattle.counter.specs.declared.Advanced.TheVariants.{Next, Refused}
-use Rattle.counter.specs.declared.VState.{VState}
 use Rattle.counter.specs.declared.VState.TheVariants.{State}
 use Rattle.counter.specs.declared.VState.TheVariants as vstate
 use Rattle.counter.specs.Counter.{below_total, counter_asks, counter_at, line_after, advance_of, v_state_of}

@@ -1,5 +1,5 @@
 -- What the line counter answers. It runs through the lines of a frame, from 0 to the total less one, and round again.
-use Rattle.std.specs.Prelude.{Bool, cond, ◌&&◌, List, [], ◌∷◌, ◌++◌, ℕ, ◌+◌, ◌-◌, ◌%◌, leb, ltb}
+use Rattle.std.specs.Prelude.{cond, ◌&&◌, List, [], ◌∷◌, ◌++◌, ℕ, ◌+◌, ◌-◌, ◌%◌, leb, ltb}
 use Rattle.refusal.specs.declared.Refusal.TheVariants.{LineCounter, LineOffset}
 use Rattle.refusal.specs.Verdict.{Ask, ask, verdict, answered}
 use Rattle.timing.specs.declared.DviTiming.{DviTiming}

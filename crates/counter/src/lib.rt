@@ -1,4 +1,6 @@
 // The line counter of timing.rs. It goes in by value and the next one comes back; a refused call hands it back as it came.
+#![tactic(auto)]
+
 ghost use Rattle.std.specs.Prelude.{◌≡◌, ◌<◌, ◌≤◌};
 ghost use Rattle.refusal.specs.Verdict.{verdict};
 ghost use Rattle.timing.specs.Timing.{total};

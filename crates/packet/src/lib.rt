@@ -1,4 +1,6 @@
 // The packet builders of data_island.rs for the info frames. Each fixes all 36 bytes, whatever the packet held.
+#![tactic(auto)]
+
 ghost use Rattle.std.specs.Prelude.{◌≡◌, ◌+◌, ◌*◌, ◌≤◌};
 ghost use Rattle.laws.specs.Bytes.{low_first};
 ghost use Rattle.refusal.specs.Verdict.{verdict, kept};

@@ -1,6 +1,6 @@
 -- Refused, the counter stands; the last line goes back to the first; past it the counter stands and the answer is 8.
 use mathlib.Core.Path.{◌≡◌, sym, ap, ◌∙◌}
-use Prim.Native.Nat.{ℕ, ◌-◌}
+use Prim.Native.Nat.{◌-◌}
 use Rattle.refusal.specs.declared.Refusal.{Refusal}
 use Rattle.refusal.specs.declared.Refusal.TheVariants.{LineCounter}
 use Rattle.refusal.specs.declared.Verdict.{Verdict}
@@ -11,7 +11,6 @@ use Rattle.timing.specs.Timing.{total, timing_asks}
 use Rattle.counter.specs.declared.DviTimingState.{DviTimingState}
 use Rattle.counter.specs.Counter.{counter_asks, counter_at, line_after}
 use Rattle.counter.proofs.Edges.{from_last, advance-past}
-use Rattle.scan_out.specs.declared.Stepped.{Stepped}
 use Rattle.scan_out.specs.Stepped.{counter_after, stepped_of}
 use Rattle.scan_out.proofs.Steps.{apart, advance_apart}
 

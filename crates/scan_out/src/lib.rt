@@ -1,4 +1,6 @@
 // The line counter advanced where it lies, for the loop that sends lines.
+#![tactic(auto)]
+
 ghost use Rattle.std.specs.Prelude.{◌≡◌};
 ghost use Rattle.refusal.specs.Verdict.{verdict};
 ghost use Rattle.counter.specs.Counter.{counter_asks};
@@ -32,7 +34,7 @@ pub fn next(state: DviTimingState, timing: DviTiming) -> Stepped
     }
 }
 
-// In place: refused, the counter is left as it is. The kit doesn't walk a reference to a struct by itself, so the proof does (proofs/advance).
+// In place: refused, the counter is left as it is.
 pub fn advance(state: &mut DviTimingState, timing: DviTiming) -> Verdict
     ensures { (state.new ≡ counter_after timing state.old) × (result ≡ verdict (counter_asks timing state.old.v_ctr)) }
 {
