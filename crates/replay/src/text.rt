@@ -1,6 +1,5 @@
 // The text of the list: where a byte stands, which word of a few it is, and bytes in hexadecimal.
-ghost use Rattle.std.specs.Prelude.{◌≡◌, ◌+◌, ◌≤◌, min, length};
-ghost use Rattle.io.specs.Counts.{IsPrefixLen};
+ghost use Rattle.std.specs.Prelude.{◌≡◌, ◌+◌, ◌≤◌, min, length, take};
 
 // The first place from `at` on that holds the byte, or the end.
 pub fn find(text: &[u8], at: usize, byte: u8) -> usize
@@ -96,7 +95,7 @@ fn byte(high: u8, low: u8) -> u16
 
 // Bytes of two digits each, the higher first; spaces between bytes say nothing.
 pub fn read_hex(text: &[u8], out: &mut [u8]) -> Spelled
-    ensures { IsPrefixLen result.count out.new }
+    ensures { (result.count ≤ length out.new) × (result.count ≡ length (take result.count out.new)) }
 {
     let mut i = 0;
     let mut n = 0;

@@ -1,8 +1,11 @@
 // All of standard input as one row from discrepancy 0, in pieces of at most 4,096 bytes: each symbol as three hexadecimal digits and a line feed.
+#![tactic(auto)]
+
 ghost use Rattle.std.specs.Prelude.{◌≡◌, length};
 
-use libc::{STDIN_FILENO, STDOUT_FILENO};
 use row::RowEncoded;
+use std::io;
+use std::io::{Print, Read};
 
 #[derive(Clone, Copy)]
 enum Turn {
@@ -11,7 +14,13 @@ enum Turn {
     Stop,
 }
 
-// Room for the symbols of a piece, and for their lines. A function of its own, so that a proof knows the length and not 16,384 zeros.
+// Room for a piece, for its symbols and for their lines. A function of its own, so that a proof knows the length and not 16,384 zeros.
+fn byte_room() -> [u8; 4096]
+    ensures { 4096 ≡ length result }
+{
+    [0; 4096]
+}
+
 fn symbol_room() -> [u16; 4096]
     ensures { 4096 ≡ length result }
 {
@@ -25,49 +34,54 @@ fn text_room() -> [u8; 16384]
 }
 
 // The lines of one piece, in one write.
-fn write_lines(discrepancy: i32, bytes: &[u8], symbols: &mut [u16], text: &mut [u8]) -> Turn {
+fn write_lines(
+    rt: &impl Print,
+    discrepancy: i32,
+    bytes: &[u8],
+    symbols: &mut [u16],
+    text: &mut [u8],
+) -> io::Result<Turn> {
     let r = row_text::encode_row_text(discrepancy, bytes, symbols, text);
     let RowEncoded::Done(next) = r else {
-        return Turn::Stop;
+        return Ok(Turn::Stop);
     };
-    if !io::write_all(STDOUT_FILENO, text) {
-        os::fail(b"standard output");
-        return Turn::Stop;
-    }
-    Turn::More(next)
+    rt.write_all(text)?;
+    Ok(Turn::More(next))
 }
 
 // Reads once, and writes the lines of what came. A short read is only a smaller piece, since the discrepancy goes on.
-fn piece(discrepancy: i32) -> Turn {
-    let mut bytes = io::buffer();
-    let got = libc::read(STDIN_FILENO, &mut bytes);
-    if got < 0 {
-        os::fail(b"standard input");
-        return Turn::Stop;
+fn piece(input: &mut impl Read, rt: &impl Print, discrepancy: i32) -> io::Result<Turn> {
+    let mut bytes = byte_room();
+    let n = input.read(&mut bytes)?;
+    if n == 0 {
+        return Ok(Turn::Stop);
     }
-    if got == 0 {
-        return Turn::Stop;
-    }
-    let n = io::count(got, &bytes);
     let m = 4 * n;
     let mut symbols = symbol_room();
     let mut text = text_room();
-    write_lines(discrepancy, &bytes[..n], &mut symbols[..n], &mut text[..m])
+    write_lines(
+        rt,
+        discrepancy,
+        &bytes[..n],
+        &mut symbols[..n],
+        &mut text[..m],
+    )
 }
 
 // Each turn takes at least one byte, so the count is never reached.
-fn all() {
+fn all(input: &mut impl Read, rt: &impl Print) -> io::Result<()> {
     let mut discrepancy = 0;
     let mut turns = u64::MAX;
     while turns > 0 {
-        let Turn::More(next) = piece(discrepancy) else {
-            return;
+        let Turn::More(next) = piece(input, rt, discrepancy)? else {
+            return Ok(());
         };
         discrepancy = next;
         turns -= 1;
     }
+    Ok(())
 }
 
-fn main() {
-    all();
+fn main(rt: HostRuntime) -> io::Result<()> {
+    all(&mut rt.stdin(), &rt)
 }
