@@ -1,4 +1,6 @@
 // What every C function answers and takes: one answer of four numbers, a display mode, a level.
+#![tactic(auto)]
+
 ghost use Rattle.std.specs.Prelude.{◌≡◌};
 ghost use Rattle.crossing.specs.Crossing.{given, refused, told};
 ghost use Rattle.crossing.specs.Signed.{signed};

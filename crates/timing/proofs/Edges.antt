@@ -1,11 +1,10 @@
 -- Each bound at its edge, on both sides.
 use mathlib.Core.Path.{◌≡◌, refl}
 use mathlib.Core.List.{List, [], ◌∷◌}
-use Prim.Native.Nat.{ℕ, ◌+◌, ◌-◌, ◌<◌}
-use lib.Dec.{T}
+use Prim.Native.Nat.{ℕ, ◌-◌, ◌<◌}
 use lib.ListN.{get_or, set, replicate}
-use Rattle.laws.proofs.Finite.{all, agreed}
-use Rattle.refusal.specs.declared.Refusal.TheVariants.{Unlisted, TimingRange}
+use Rattle.laws.proofs.Finite.{agreed}
+use Rattle.refusal.specs.declared.Refusal.TheVariants.{Unlisted}
 use Rattle.refusal.specs.declared.Verdict.TheVariants.{Fine, Refused}
 use Rattle.refusal.specs.Verdict.{verdict, verdict_number}
 use Rattle.timing.specs.declared.DviTiming.{DviTiming}

@@ -1,10 +1,10 @@
 -- What an accepted timing has: polarities of one bit, and every number within its range.
-use mathlib.Core.Path.{◌≡◌, refl}
-use mathlib.Core.Bool.{Bool, true, false, ◌&&◌}
+use mathlib.Core.Path.{◌≡◌}
+use mathlib.Core.Bool.{Bool, true, ◌&&◌}
 use mathlib.Core.List.{[]}
-use Prim.Native.Nat.{ℕ, ◌+◌, ◌≤◌, ◌<◌}
+use Prim.Native.Nat.{ℕ, ◌≤◌, ◌<◌}
 use borrow.Author.Tests.{le-leb, lt-ltb}
-use lib.Dec.{T, leb, ltb, leb→le, ltb→lt}
+use lib.Dec.{leb, ltb, leb→le, ltb→lt}
 use Rattle.laws.proofs.Truth.{and_left, and_right, true_T, T_true}
 use Rattle.refusal.specs.declared.Refusal.TheVariants.{Unlisted, TimingRange}
 use Rattle.refusal.specs.declared.Verdict.TheVariants.{Fine}

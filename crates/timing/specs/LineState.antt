@@ -1,5 +1,5 @@
 -- The four states of a line, their numbers, and the state of each line of a frame: first the front porch, then sync, the back porch and the active lines.
-use Rattle.std.specs.Prelude.{Bool, cond, ℕ, ◌+◌, eqb, ltb}
+use Rattle.std.specs.Prelude.{cond, ℕ, ◌+◌, ltb}
 use Rattle.timing.specs.declared.DviTiming.{DviTiming}
 use Rattle.timing.specs.declared.DviTimingLineState.{DviTimingLineState}
 use Rattle.timing.specs.declared.DviTimingLineState.TheVariants.{FrontPorch, Sync, BackPorch, Active}

@@ -1,7 +1,7 @@
 -- The sync levels that a timing gives, and the control characters with them.
 use Rattle.std.specs.Prelude.{Bool, true, false, not, ◌&&◌, List, [], ◌∷◌, ℕ, eqb, ltb}
 use Rattle.dvi.specs.Control.{pair_of}
-use Rattle.hdmi.specs.Period.{idle, video_preamble, data_preamble}
+use Rattle.hdmi.specs.Period.{idle}
 use Rattle.refusal.specs.declared.Refusal.TheVariants.{Unlisted}
 use Rattle.refusal.specs.Verdict.{Ask, ask, verdict, answered}
 use Rattle.timing.specs.declared.DviTiming.{DviTiming}

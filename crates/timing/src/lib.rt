@@ -1,4 +1,6 @@
 // The timing of a display mode, after timing.rs: its ranges, the control words that its polarities give, and the command words that send them.
+#![tactic(auto)]
+
 ghost use Rattle.std.specs.Prelude.{false, ◌≡◌, ◌<◌};
 ghost use Rattle.dvi.specs.Control.{pair_of};
 ghost use Rattle.hdmi.specs.Period.{control_word, idle, video_preamble, data_preamble};

@@ -1,4 +1,6 @@
 // Words of 32 bits that are lent as bytes, the low byte of each first.
+#![tactic(auto)]
+
 ghost use Rattle.std.specs.Prelude.{◌≡◌, ◌+◌, ◌*◌, ◌<◌, length, take, drop};
 ghost use Rattle.std.proofs.lemmas.List.Edits.{sets};
 ghost use Rattle.laws.specs.Bytes.{low_first, from_low, bytes_of, numbers_of};
