@@ -3,6 +3,11 @@
 
 export PYTHONDONTWRITEBYTECODE=1
 
+# The kit's folder, its LLVM, and the archive that `rt lib` makes of the proved library.
+kit=$(dirname "$(rt doc)")
+tools=$kit/toolchain/bin
+proved_archive=$root/crates/chaffrail/out/libchaffrail.a
+
 boards=(thumbv8m.main-none-eabi thumbv8m.main-none-eabihf riscv32imac-unknown-none-elf)
 host=x86_64-unknown-linux-gnu
 

@@ -46,12 +46,12 @@ class Source:
 
     def __init__(self):
         text = without_comments((ROOT / "crates/chaffrail/src/lib.rt").read_text(encoding="utf-8"))
-        found = re.findall(r'#\[no_mangle\]\s*pub extern "C" fn (\w+)\(([^)]*)\)\s*->\s*(\w+)', text)
+        found = re.findall(r'#\[unsafe\(no_mangle\)\]\s*pub extern "C" fn (\w+)\(([^)]*)\)\s*->\s*(\w+)', text)
         self.functions = {name: (pairs(parameters, True), answer) for name, parameters, answer in found}
         crossing = {answer for _, answer in self.functions.values()}
         self.structs = {}
         for file in sorted(ROOT.glob("crates/*/src/*.rt")):
-            for name, fields in re.findall(r"#\[repr\(C\)\]\s*pub struct (\w+) \{([^}]*)\}", without_comments(file.read_text(encoding="utf-8"))):
+            for name, fields in re.findall(r"#\[repr\(C\)\]\s*(?:#\[[^\]]*\]\s*)*pub struct (\w+) \{([^}]*)\}", without_comments(file.read_text(encoding="utf-8"))):
                 if name in crossing:
                     self.structs[name] = pairs(fields, True)
         if crossing != set(self.structs) or len(crossing) != 2:

@@ -14,20 +14,25 @@ import sys
 
 from llvm import Function, Module, Refused
 
-X86_ATTRIBUTES = re.compile(r' "probe-stack"="inline-asm" "target-cpu"="x86-64"')
+X86_ATTRIBUTES = re.compile(r' "probe-stack"="inline-asm" "stack-probe-size"="3072" "target-cpu"="x86-64-v2"')
 
 ANSWER = re.compile(r"^define \{ i64, i64 \} @(chaffrail_\w+)\((.*)\) (#\d+ \{)$")
 PARAMETER = re.compile(r"^(?:(?:i8|i16|i32|ptr) noundef|ptr noundef byval\(\[40 x i8\]\) align 4) %a\d+$")
 LENGTH = re.compile(r"^i64 noundef %a(\d+)$")
-# The lines of an exported function: room for the answer, each slice's pointer and length, the call, the answer.
+# The lines of an exported function: room for the answer, each slice's pointer (4096 in the place of null) and length, the call, the answer.
 STORED_LENGTH = re.compile(r"^  store i64 %a(\d+), (ptr %r\d+, align 8)$")
 RETURNED = re.compile(r"^  ret \{ i64, i64 \} (%r\d+)$")
 KEPT = [re.compile(form) for form in (
     r"^start:$",
     r"^  %r\d+ = alloca \[16 x i8\], align [48]$",
-    r"^  store ptr %a\d+, ptr %r\d+, align 8$",
+    r"^  %r\d+ = icmp eq ptr %a\d+, null$",
+    r"^  %r\d+ = zext i1 %r\d+ to i64$",
+    r"^  %r\d+ = mul i64 %r\d+, 4096$",
+    r"^  %r\d+ = getelementptr i8, ptr %a\d+, i64 %r\d+$",
+    r"^  store ptr %r\d+, ptr %r\d+, align 8$",
     r"^  %r\d+ = getelementptr i8, ptr %r\d+, i64 8$",
-    r'^  call void @"chaffrail::chaffrail_\w+"\(ptr %r0(?:, (?:i8|i16|i32|ptr) %[ar]\d+)*\)$',
+    r"^  %r\d+ = load (?:ptr|i64), ptr %r\d+, align 1$",
+    r'^  call void @"chaffrail::chaffrail_\w+"\(ptr %r0(?:, (?:(?:i8|i16|i32|ptr) %[ar]|i64 %r)\d+)*\)$',
     r"^  %r\d+ = load \{ i64, i64 \}, ptr %r0, align 4$",
     r"^\}$",
 )]

@@ -1,12 +1,14 @@
 #!/usr/bin/env python3
 """tables.py MODULE >ANOTHER: const tables in read-only memory.
 
-The kit fills a const table on the stack, by a run of constant stores, wherever a function names it. Here such a run becomes one copy from a private
-constant of the same bytes, in its place; where the array is only read afterwards, LLVM itself leaves the copy out and reads the constant.
+The kit lends a const table from read-only memory itself, as a private constant; but one that a function takes by value, as an array written out in place,
+it fills on the stack, by zeros and then a run of constant stores. Here such a run becomes one copy from a private constant of the same bytes, in its place;
+where the array is only read afterwards, LLVM itself leaves the copy out and reads the constant.
 
-A run is taken only when it is the array's first use, begins at its first byte, goes on in order with neither gap nor overlap, stores constants and
-nothing else, and ends with the array. The addresses it works out must have no other use. Whatever isn't so stays as it is; but an array of
-64 bytes or more that begins with such a run and isn't taken is an error, since a table was probably meant. How many were taken is said.
+A run is taken only when it is the array's first use but for those zeros, begins at its first byte, goes on in order with neither gap nor overlap, stores
+constants and nothing else, and ends with the array. The addresses it works out must have no other use. Whatever isn't so stays as it is; but an array of
+64 bytes or more that begins with such a run and isn't taken is an error, since a table was probably meant. How many were taken is said, and how many
+constants are the kit's own.
 """
 import re
 import sys
@@ -18,6 +20,8 @@ SURELY_A_TABLE = 64
 
 ARRAY = re.compile(r"^  (%\w+) = alloca \[(\d+) x i8\], align (\d+)$")
 STORE = re.compile(r"^  store i(8|16|32|64) (-?\d+), ptr (%\w+), align \d+$")
+ZEROS = re.compile(r"^  call void @llvm\.memset\.p0\.i64\(ptr (%\w+), i8 0, i64 (\d+), i1 false\)$")
+OF_KIT = re.compile(r"^@static\.\d+ = private unnamed_addr constant \[\d+ x i8\] ")
 ADDRESS = re.compile(r"^  (%\w+) = getelementptr (?:inbounds |nuw )*i8, ptr (%\w+), i64 (\d+)$")
 VALUE = re.compile(r"%\w+")
 COPY = "llvm.memcpy.p0.p0.i64"
@@ -90,11 +94,11 @@ class Tables:
         lines, out, at = function.lines, [], 0
         unused = {}  # the arrays that no line has used so far, with size and alignment
         while at < len(lines):
-            declared = ARRAY.match(lines[at])
+            declared, zeros = ARRAY.match(lines[at]), ZEROS.match(lines[at])
             copy, count = [], 0
             if declared:
                 unused[declared[1]] = int(declared[2]), int(declared[3])
-            else:
+            elif not (zeros and zeros[1] in unused and int(zeros[2]) == unused[zeros[1]][0]):
                 for array in [name for name in VALUE.findall(lines[at]) if name in unused]:
                     size, align = unused.pop(array)
                     copy, count = self.taken(function, at, array, size, align)
@@ -114,7 +118,8 @@ def in_read_only_memory(text):
     module.parts[triple + 1:triple + 1] = ["", *tables.lines()]
     if tables.copies and f"@{COPY}(" not in "\n".join(part for part in module.parts if not isinstance(part, Function)):
         module.parts.append(f"declare void @{COPY}(ptr noalias writeonly captures(none), ptr noalias readonly captures(none), i64, i1 immarg)\n")
-    said = f"{tables.copies} runs of constant stores taken, {len(tables.names)} constants, {sum(map(len, tables.names))} bytes"
+    own = sum(1 for part in module.parts if not isinstance(part, Function) and OF_KIT.match(part))
+    said = f"{tables.copies} runs of constant stores taken, {len(tables.names)} constants, {sum(map(len, tables.names))} bytes; {own} constants of the kit's own"
     return str(module), said
 
 

@@ -8,7 +8,8 @@ from tables import in_read_only_memory
 
 HEADS = 'target datalayout = "e-p:32:32"\ntarget triple = "board"\n'
 X86 = ('target datalayout = "e-p:64:64"\ntarget triple = "x86_64-unknown-linux-gnu"\n\n%s\n'
-       'attributes #0 = { nounwind "probe-stack"="inline-asm" "target-cpu"="x86-64" }\n')
+       'attributes #0 = { nounwind "probe-stack"="inline-asm" "stack-probe-size"="3072" "target-cpu"="x86-64-v2" }\n')
+ZEROS = "  call void @llvm.memset.p0.i64(ptr %%r0, i8 0, i64 %d, i1 false)"
 
 
 def function(size, stores, then=(), before=(), align=4, name="f"):
@@ -96,6 +97,24 @@ class Tables(unittest.TestCase):
     def test_a_use_before_the_run_stays(self):
         self.stays(filling(64, words(16), before=["  call void @g(ptr %r0)"]))
 
+    def test_zeros_of_the_whole_array_before_the_run_are_no_use(self):
+        self.taken(filling(64, words(16), before=[ZEROS % 64, ZEROS % 64]), 1, 1)
+
+    def test_zeros_of_a_part_before_the_run_are_a_use(self):
+        self.stays(filling(64, words(16), before=[ZEROS % 60]))
+
+    def test_zeros_do_not_hide_a_run_that_ends_early(self):
+        self.refused(filling(64, words(15), before=[ZEROS % 64]), "ends after 60")
+
+    def test_zeros_in_between_are_refused(self):
+        self.refused(filling(64, words(16)).replace("  store i32 1004", ZEROS % 64 + "\n  store i32 1004"), "ends after 16")
+
+    def test_the_constants_of_the_kit_stay_and_are_counted(self):
+        own = '@static.0 = private unnamed_addr constant [4 x i8] c"\\03\\00\\00\\00", align 4'
+        out, said = in_read_only_memory(filling(64, words(16)).replace("\n\n", f"\n\n{own}\n\n", 1))
+        self.assertIn(own, out)
+        self.assertIn("1 runs of constant stores taken, 1 constants, 64 bytes; 1 constants of the kit's own", said)
+
     def test_a_use_in_between_is_refused(self):
         text = filling(64, words(16)).replace("  store i32 1004", "  call void @g(ptr %r0)\n  store i32 1004")
         self.refused(text, "ends after 16")
@@ -111,12 +130,19 @@ ANSWERING = """define { i64, i64 } @chaffrail_f(i8 noundef %a0, ptr noundef %a1,
 start:
   %r0 = alloca [16 x i8], align 4
   %r1 = alloca [16 x i8], align 8
-  store ptr %a1, ptr %r1, align 8
-  %r2 = getelementptr i8, ptr %r1, i64 8
-  store i64 %a2, ptr %r2, align 8
-  call void @"chaffrail::chaffrail_f"(ptr %r0, i8 %a0, ptr %r1, ptr %a3)
-  %r3 = load { i64, i64 }, ptr %r0, align 4
-  ret { i64, i64 } %r3
+  %r2 = icmp eq ptr %a1, null
+  %r3 = zext i1 %r2 to i64
+  %r4 = mul i64 %r3, 4096
+  %r5 = getelementptr i8, ptr %a1, i64 %r4
+  store ptr %r5, ptr %r1, align 8
+  %r6 = getelementptr i8, ptr %r1, i64 8
+  store i64 %a2, ptr %r6, align 8
+  %r7 = load ptr, ptr %r1, align 1
+  %r8 = getelementptr i8, ptr %r1, i64 8
+  %r9 = load i64, ptr %r8, align 1
+  call void @"chaffrail::chaffrail_f"(ptr %r0, i8 %a0, ptr %r7, i64 %r9, ptr %a3)
+  %r10 = load { i64, i64 }, ptr %r0, align 4
+  ret { i64, i64 } %r10
 }"""
 INNER = """define internal i64 @"row::f"(i64 noundef %a0) #0 {
 start:
@@ -136,8 +162,8 @@ class Retarget(unittest.TestCase):
         out = self.turned(ANSWERING)
         self.assertIn("define void @chaffrail_f(ptr noundef sret([16 x i8]) align 4 %answer, i8 noundef %a0, ptr noundef %a1, i32 noundef %len2, "
                       "ptr noundef byval([40 x i8]) align 4 %a3) #0 {", out)
-        self.assertIn("  %a2 = zext i32 %len2 to i64\n  store i64 %a2, ptr %r2, align 8\n", out)
-        self.assertIn("  store { i64, i64 } %r3, ptr %answer, align 4\n  ret void\n}", out)
+        self.assertIn("  %a2 = zext i32 %len2 to i64\n  store i64 %a2, ptr %r6, align 8\n", out)
+        self.assertIn("  store { i64, i64 } %r10, ptr %answer, align 4\n  ret void\n}", out)
 
     def test_nothing_of_x86_64_is_left(self):
         out = self.turned(ANSWERING + "\n" + INNER)
@@ -163,7 +189,10 @@ class Retarget(unittest.TestCase):
         self.refused(ANSWERING.replace("i8 noundef %a0", "i64 noundef %a0").replace("i8 %a0", "i64 %a0"), "isn't known")
 
     def test_a_length_that_no_slice_takes_is_refused(self):
-        self.refused(ANSWERING.replace("  store i64 %a2, ptr %r2, align 8\n", ""), "isn't a slice's length")
+        self.refused(ANSWERING.replace("  store i64 %a2, ptr %r6, align 8\n", ""), "isn't a slice's length")
+
+    def test_another_place_in_the_place_of_null_is_refused(self):
+        self.refused(ANSWERING.replace("i64 %r3, 4096", "i64 %r3, 8192"), "a line that isn't known")
 
     def test_another_line_is_refused(self):
         self.refused(ANSWERING.replace("start:", "start:\n  fence seq_cst"), "a line that isn't known")

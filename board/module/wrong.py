@@ -31,7 +31,7 @@ def table(text, heads):
         middle = len(numbers) // 2
         numbers[middle] = f"{(int(numbers[middle], 16) + 1) % 256:02X}"
         return found[1] + "".join("\\" + n for n in numbers) + found[3]
-    return retargeted(changed_once(r'^(@table\.\d+ = .* c")([^"]*)(".*)$', one_more, text), heads)
+    return retargeted(changed_once(r'^(@(?:table|static)\.\d+ = .* c")([^"]*)(".*)$', one_more, text), heads)
 
 
 def fields(text, heads):

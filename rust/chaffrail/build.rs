@@ -1,4 +1,4 @@
-//! Links the static library: from the folder that CHAFFRAIL_LIB names, or from the repository's target/staticlib; for a board from target/board.
+//! Links the static library: from the folder that CHAFFRAIL_LIB names, or from where `rt lib` leaves it; for a board from target/board.
 use std::env;
 use std::path::PathBuf;
 
@@ -8,7 +8,7 @@ fn main() {
     let (target, host) = (env::var("TARGET").unwrap(), env::var("HOST").unwrap());
     let (folder, made_by) = match env::var_os("CHAFFRAIL_LIB") {
         Some(named) => (PathBuf::from(named), "CHAFFRAIL_LIB names its folder"),
-        None if target == host => (here.join("../../target/staticlib"), "`rt staticlib chaffrail` writes it"),
+        None if target == host => (here.join("../../crates/chaffrail/out"), "`rt lib` in crates/chaffrail writes it"),
         None => (here.join("../../target/board").join(target), "`board/build` writes it"),
     };
     let archive = folder.join("libchaffrail.a");
