@@ -1,5 +1,5 @@
 -- A packet is 36 bytes, neither 35 nor 37; and what it held plays no part in what an accepted call leaves.
-use mathlib.Core.Path.{◌≡◌, refl}
+use mathlib.Core.Path.{◌≡◌}
 use mathlib.Core.List.{List}
 use Prim.Native.Nat.{ℕ}
 use lib.Dec.{T}

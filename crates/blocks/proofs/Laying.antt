@@ -2,7 +2,7 @@
 use mathlib.Core.Path.{◌≡◌, refl, sym, ap}
 use mathlib.Core.List.{List, [], ◌∷◌, ◌++◌}
 use Prim.Native.Nat.{ℕ}
-use lib.ListN.{length, replicate, get_or}
+use lib.ListN.{length, replicate}
 use lib.Seq.{sets}
 use Rattle.laws.specs.Bytes.{low_first}
 use Rattle.laws.proofs.Spines.{spine, on_spine}

@@ -1,5 +1,5 @@
 -- The bounds of the clock packet, on both sides; and the order of the questions.
-use mathlib.Core.Path.{◌≡◌, refl}
+use mathlib.Core.Path.{◌≡◌}
 use mathlib.Core.List.{List}
 use Prim.Native.Nat.{ℕ}
 use lib.Dec.{T}

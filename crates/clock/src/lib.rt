@@ -1,4 +1,6 @@
 // The packet builder of data_island.rs for the audio clock. It fixes all 36 bytes, whatever the packet held.
+#![tactic(auto)]
+
 ghost use Rattle.std.specs.Prelude.{◌≡◌};
 ghost use Rattle.refusal.specs.Verdict.{verdict, kept};
 ghost use Rattle.hdmi.specs.Clock.{clock_packet};

@@ -31,7 +31,7 @@ byte_of s = value_of (cond (bit8 s) (restored XOR (upright s)) (restored XNOR (u
 
 -- whether s is sent at all: it has ten bits, and the encoder sends it for that byte at 0 or on either side of it
 unfoldable pub is_data : ℕ → Bool
-is_data s = ltb s 1024 && (sentAt (pos 0) || sentAt (pos 1) || sentAt (negsuc 0))
+is_data s = ltb s 1024 && (sent_at (pos 0) || sent_at (pos 1) || sent_at (negsuc 0))
   where
-    sentAt : ℤ → Bool
-    sentAt d = eqb (symbol_of d (byte_of s)) s
+    sent_at : ℤ → Bool
+    sent_at d = eqb (symbol_of d (byte_of s)) s

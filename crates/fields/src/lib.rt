@@ -1,4 +1,6 @@
 // The fields of the AVI info frame (CEA-861-D, section 6.4): an enum for each, its numbers, and the decision from a number.
+#![tactic(auto)]
+
 ghost use Rattle.std.specs.Prelude.{◌≡◌, ◌≤◌};
 ghost use Rattle.hdmi.specs.Info.{active_present};
 ghost use Rattle.fields.specs.ScanInfo.{scan_number, scan_decided};

@@ -1,9 +1,9 @@
 -- The four subpackets side by side: two merges, of pairs and then of fours of bits, bring the bit pairs of a character together in a byte.
-use mathlib.Core.Path.{◌≡◌, sym, ap, ap₂, ◌∙◌}
+use mathlib.Core.Path.{◌≡◌, ap, ap₂, ◌∙◌}
 use mathlib.Core.List.{List, [], ◌∷◌}
 use Prim.Native.Nat.{ℕ, zero, suc, ◌+◌, ◌-◌, ◌*◌, ◌/◌, ◌%◌, ◌^◌, ◌<◌, min, max}
 use native.Mathlib.Omega.{arith}
-use lib.Bits.{bit_and, bit_or}
+use lib.Bits.{bit_and}
 use lib.ListN.{get_or}
 use Rattle.laws.specs.Bit.{bit}
 use Rattle.laws.proofs.Bits.{bit_lt, bit-and, bit-or, bit_mod, bit_shr, bit-shl}

@@ -1,4 +1,6 @@
 // The data island's writer: the header goes on lane 0, and the four subpackets, transposed, on lanes 1 and 2.
+#![tactic(auto)]
+
 ghost use Rattle.std.specs.Prelude.{◌≡◌, [], ◌∷◌, ℕ, ◌+◌, ◌*◌, ◌/◌, ◌%◌, ◌^◌, ◌<◌, length, get_or};
 ghost use Rattle.laws.specs.Bit.{bit};
 ghost use Rattle.laws.specs.Front.{Front};

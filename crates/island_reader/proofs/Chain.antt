@@ -1,6 +1,6 @@
 -- One question after the other: the first refusal is that of all, and what holds where nothing was refused.
-use mathlib.Core.Path.{◌≡◌, refl, sym, ap, ◌∙◌}
-use mathlib.Core.Bool.{Bool, true, false, ◌&&◌}
+use mathlib.Core.Path.{◌≡◌, sym, ap, ◌∙◌}
+use mathlib.Core.Bool.{true, false, ◌&&◌}
 use mathlib.Core.List.{List, [], ◌∷◌, ◌++◌}
 use Prim.Native.Nat.{ℕ, ◌+◌, ◌<◌}
 use native.Mathlib.Omega.{arith}
@@ -12,7 +12,7 @@ use Rattle.refusal.specs.declared.Refusal.{Refusal}
 use Rattle.refusal.specs.declared.Refusal.TheVariants.{GuardWord, NotTerc4}
 use Rattle.refusal.specs.declared.Verdict.{Verdict}
 use Rattle.refusal.specs.declared.Verdict.TheVariants.{Fine, Refused}
-use Rattle.refusal.specs.Verdict.{Ask, unless, verdict, answered, kept}
+use Rattle.refusal.specs.Verdict.{Ask, verdict, answered, kept}
 use Rattle.refusal.proofs.Upward.{passed}
 use Rattle.refusal.proofs.Verdicts.{joined, stops, goes_on}
 use Rattle.hdmi.specs.Island.{guard_word}

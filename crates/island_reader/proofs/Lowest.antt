@@ -47,6 +47,7 @@ pub data Each (P : Refusal → Type 0) : List Ask → Type 0 where
   and : {q : Ask} {qs : List Ask} → (q.holds ≡ false → P q.otherwise) → Each P qs → Each P (q ∷ qs)
 
 pub each : {P : Refusal → Type 0} {qs : List Ask} {r : Refusal} → Each P qs → Fails qs r → P r
+each no_more f = elim f [ ]
 each (and x rest) (here e) = x e
 each (and x rest) (later f) = each rest f
 

@@ -1,4 +1,6 @@
 // The data island's reader: 36 words to the sync pair and the packet, or the first refusal.
+#![tactic(auto)]
+
 ghost use Rattle.std.specs.Prelude.{◌≡◌, [], ◌∷◌, ◌++◌, ℕ, ◌+◌, ◌*◌, ◌<◌, ◌≤◌, length, get_or};
 ghost use Rattle.laws.specs.Bit.{bit};
 ghost use Rattle.laws.proofs.Tables.{made};

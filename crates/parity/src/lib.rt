@@ -1,4 +1,6 @@
 // The parity byte of HDMI's blocks.
+#![tactic(auto)]
+
 ghost use Rattle.std.specs.Prelude.{◌≡◌, [], ◌∷◌, ◌-◌, ◌≤◌, ◌<◌, length, take, drop, set};
 ghost use Rattle.laws.specs.Bytes.{low_first};
 ghost use Rattle.refusal.specs.Verdict.{verdict, kept};

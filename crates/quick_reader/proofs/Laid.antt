@@ -1,15 +1,15 @@
 -- A packet laid down from its five words, whose parity bytes were found right: the words that are its island are an encoding.
 use mathlib.Core.Path.{◌≡◌, refl, sym, subst}
 use mathlib.Core.Bool.{Bool, true, ◌&&◌}
-use mathlib.Core.List.{List, [], ◌∷◌, ◌++◌}
-use Prim.Native.Nat.{ℕ, zero, suc, ◌+◌, ◌*◌, ◌/◌, ◌%◌, ◌<◌}
+use mathlib.Core.List.{List, [], ◌++◌}
+use Prim.Native.Nat.{ℕ, zero, suc, ◌/◌, ◌<◌}
 use native.Mathlib.Omega.{arith}
 use lib.Dec.{T}
-use lib.ListN.{length, get_or}
+use lib.ListN.{get_or}
 use Rattle.laws.specs.Bytes.{low_first}
 use Rattle.laws.proofs.Truth.{true_T, and_left, and_right}
 use Rattle.hdmi.specs.Island.{island}
-use Rattle.hdmi.specs.Packet.{header, subpacket, RightPacket}
+use Rattle.hdmi.specs.Packet.{subpacket, RightPacket}
 use Rattle.hdmi.specs.Parity.{right}
 use Rattle.island_reader.specs.Exact.{Encodes}
 

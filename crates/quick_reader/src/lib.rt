@@ -1,5 +1,7 @@
 // The island's reader for islands that are right, as nearly all are: a packet is guessed, written again, and the words are compared. Of a guess nothing
 // is believed, so nothing is proved. What isn't found right in this way goes to the reader that asks one question after the other.
+#![tactic(auto)]
+
 ghost use Rattle.std.specs.Prelude.{◌≡◌, true, ◌&&◌, ◌<◌, length};
 ghost use Rattle.laws.specs.Bytes.{low_first};
 ghost use Rattle.hdmi.specs.Island.{island};

@@ -1,6 +1,6 @@
 -- The encoder into bytes alone: a symbol is two bytes, low byte first. An odd number of bytes is no row of symbols; else it answers as the
 -- encoder into symbols does.
-use Rattle.std.specs.Prelude.{ℕ, ◌/◌, ◌%◌, List, [], ◌∷◌, length, ℤ, ◌==◌}
+use Rattle.std.specs.Prelude.{ℕ, ◌/◌, ◌%◌, List, ◌∷◌, length, ℤ, ◌==◌}
 use Rattle.laws.specs.Bytes.{bytes_of}
 use Rattle.dvi.specs.Row.{row_symbols, row_end}
 use Rattle.refusal.specs.declared.Refusal.TheVariants.{Length}

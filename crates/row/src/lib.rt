@@ -1,4 +1,6 @@
 // A row of bytes on one lane as symbols, in pieces of at most 4,096.
+#![tactic(auto)]
+
 mod tables;
 
 ghost use Rattle.std.specs.Prelude.{◌≡◌, ◌+◌, ◌*◌, ◌<◌, ◌≤◌, T, length};

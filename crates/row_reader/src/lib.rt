@@ -1,4 +1,6 @@
 // A row of symbols of one lane as bytes, in pieces of at most 4,096.
+#![tactic(auto)]
+
 mod tables;
 
 ghost use Rattle.std.specs.Prelude.{◌≡◌, ◌+◌, ◌*◌, ◌/◌, ◌%◌, ◌<◌, ◌≤◌, length, get_or};

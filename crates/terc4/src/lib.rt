@@ -1,4 +1,6 @@
 // TERC4, the code of data islands: four bits in a symbol, and back; and the tables that the island's writer and reader are lent.
+#![tactic(auto)]
+
 ghost use Rattle.std.specs.Prelude.{◌≡◌};
 ghost use Rattle.laws.proofs.Tables.{made};
 ghost use Rattle.hdmi.specs.Terc4.{terc4, terc4_number};

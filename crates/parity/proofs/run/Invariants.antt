@@ -1,0 +1,11 @@
+-- `parity::run`: the register, from byte to byte, by the table that is lent.
+use Prim.Native.Nat.{◌-◌}
+use lib.ListN.{length}
+use Rattle.parity.proofs.Running.{Running}
+use Rattle.parity.proofs.run.Given as goal
+
+abbrev pub invariant-loop-i : goal.invariant-loop-i
+invariant-loop-i l = Running l.block l.i l.v
+
+abbrev pub decreases-loop-i : goal.decreases-loop-i
+decreases-loop-i l = length l.block - l.i

@@ -1,0 +1,12 @@
+-- `quick_reader::copy` meets its contract.
+use mathlib.Core.Path.{◌≡◌}
+use Prim.Native.Nat.{◌-◌, ◌≤◌}
+use lib.ListN.{length}
+use Rattle.laws.specs.Front.{Front}
+use Rattle.quick_reader.proofs.copy.Given as goal
+
+abbrev pub invariant-loop-i : goal.invariant-loop-i
+invariant-loop-i l = (l.i ≤ 36) × (length l.to ≡ 36) × Front l.from l.i l.to
+
+abbrev pub decreases-loop-i : goal.decreases-loop-i
+decreases-loop-i l = 36 - l.i
