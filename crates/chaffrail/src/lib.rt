@@ -1,5 +1,7 @@
 // The C functions: every encode, read and line entry on numbers and byte slices. What is wider than a byte crosses as bytes, low byte first. The archive
 // has only the functions that are marked here, so each family's stand here again, with their contracts word for word, and forward to its room.
+#![tactic(auto)]
+
 ghost use Rattle.std.specs.Prelude.{◌≡◌, [], ◌∷◌, pos, length, replicate};
 ghost use Rattle.std.specs.Int.Bits.{bit_xor};
 ghost use Rattle.dvi.specs.Control.{control, pair_of};
