@@ -1,7 +1,7 @@
 -- Each bound at its edge, as the answer says it; the counter comes back from its carry; and no row is taken for none.
-use mathlib.Core.Path.{◌≡◌, refl, sym, ap, ◌∙◌}
+use mathlib.Core.Path.{◌≡◌, refl, ap}
 use mathlib.Core.Bool.{Bool, true, false, cond, ◌&&◌}
-use Prim.Native.Nat.{ℕ, ◌+◌, ◌-◌, ◌^◌, ◌≤◌, ◌<◌}
+use Prim.Native.Nat.{ℕ, ◌-◌, ◌^◌, ◌<◌}
 use native.Mathlib.Omega.{arith}
 use lib.Dec.{T, leb, ltb, leb→le, ltb→lt}
 use lib.IntN.{pos, negsuc}
@@ -17,7 +17,7 @@ use Rattle.counter.specs.declared.Scanline.{Scanline}
 use Rattle.counter.specs.Counter.{counter_at, advance_of, v_state_of, row_at, scanline_of}
 use Rattle.crossing.specs.declared.Answer.{Answer}
 use Rattle.crossing.specs.Crossing.{given, refused}
-use Rattle.crossing.specs.Signed.{signed, bits_of}
+use Rattle.crossing.specs.Signed.{bits_of}
 use Rattle.crossing.proofs.Signed.{bits_back}
 use Rattle.c_counter.specs.Crossing.{carried, advanced, stated, no_row, shown}
 

@@ -1,4 +1,6 @@
 // The line counter on numbers. The carry of an answer has the counter's 32 bits.
+#![tactic(auto)]
+
 ghost use Rattle.std.specs.Prelude.{◌≡◌};
 ghost use Rattle.counter.specs.Counter.{counter_at, advance_of, v_state_of, scanline_of};
 ghost use Rattle.crossing.specs.Timing.{timing_of};

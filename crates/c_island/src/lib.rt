@@ -1,4 +1,6 @@
 // TERC4 and islands on numbers and bytes: each of an island's 36 words is four bytes, the low byte first.
+#![tactic(auto)]
+
 ghost use Rattle.std.specs.Prelude.{◌≡◌};
 ghost use Rattle.laws.specs.Bytes.{bytes_of};
 ghost use Rattle.hdmi.specs.Island.{island};

@@ -1,4 +1,6 @@
 // The lines on numbers and bytes: each word of a line is four bytes, the low byte first.
+#![tactic(auto)]
+
 ghost use Rattle.std.specs.Prelude.{◌≡◌, length, replicate};
 ghost use Rattle.laws.specs.Bytes.{bytes_of, numbers_of};
 ghost use Rattle.refusal.specs.Verdict.{verdict, kept};

@@ -10,7 +10,6 @@ use Rattle.refusal.specs.declared.Verdict.{Verdict}
 use Rattle.refusal.specs.declared.Verdict.TheVariants.{Fine, Refused}
 use Rattle.refusal.specs.Verdict.{verdict, unless, answered, kept}
 use Rattle.timing.specs.declared.DviTiming.{DviTiming}
-use Rattle.counter.specs.declared.DviTimingState.{DviTimingState}
 use Rattle.counter.specs.Counter.{counter_asks, counter_at, line_after}
 use Rattle.scan_out.specs.declared.Stepped.{Stepped}
 use Rattle.scan_out.specs.Stepped.{stepped_of}

@@ -1,4 +1,6 @@
 // The line counter advanced where it lies: its 32 bits as four bytes, the low byte first.
+#![tactic(auto)]
+
 ghost use Rattle.std.specs.Prelude.{◌≡◌, [], ◌∷◌};
 ghost use Rattle.laws.specs.Bytes.{bytes_of};
 ghost use Rattle.refusal.specs.Verdict.{verdict, kept};

@@ -1,4 +1,6 @@
 // Symbols and pairs on numbers.
+#![tactic(auto)]
+
 ghost use Rattle.std.specs.Prelude.{◌≡◌, pos};
 ghost use Rattle.std.specs.Int.Bits.{bit_xor};
 ghost use Rattle.dvi.specs.Control.{control, pair_of};

@@ -1,4 +1,6 @@
 // A timing, its control word and the command words, on numbers.
+#![tactic(auto)]
+
 ghost use Rattle.std.specs.Prelude.{◌≡◌};
 ghost use Rattle.refusal.specs.Verdict.{verdict};
 ghost use Rattle.timing.specs.Command.{command_of};

@@ -1,6 +1,5 @@
 -- Each bound at its edge, on both sides, for every accepted timing.
 use mathlib.Core.Path.{◌≡◌, refl}
-use Prim.Native.Nat.{ℕ}
 use Rattle.refusal.specs.declared.Refusal.TheVariants.{Length, Unlisted}
 use Rattle.refusal.specs.declared.Verdict.TheVariants.{Fine, Refused}
 use Rattle.refusal.specs.Verdict.{verdict}

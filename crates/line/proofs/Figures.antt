@@ -1,6 +1,6 @@
 -- VGA's island lines with a packet of zeros, word for word.
 use mathlib.Core.Path.{◌≡◌, refl}
-use mathlib.Core.List.{List, [], ◌∷◌, ◌++◌}
+use mathlib.Core.List.{◌∷◌, ◌++◌}
 use lib.ListN.{drop, replicate}
 use Rattle.laws.specs.Bit.{bit}
 use Rattle.dvi.specs.Control.{control}

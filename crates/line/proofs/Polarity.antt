@@ -1,11 +1,10 @@
 -- A new polarity gives new islands: two accepted timings that have an island in common, at the same line state, have the same polarities.
-use mathlib.Core.Path.{◌≡◌, refl, sym, ap, ◌∙◌}
-use mathlib.Core.Bool.{Bool, true, false, not}
+use mathlib.Core.Path.{◌≡◌, refl}
+use mathlib.Core.Bool.{Bool, true, false}
 use mathlib.Core.List.{List}
 use Prim.Native.Nat.{ℕ, zero, suc, ◌+◌, ◌*◌, ◌<◌}
 use native.Mathlib.Omega.{arith}
-use lib.Dec.{eqb}
-use Rattle.dvi.specs.Control.{level, pair_of}
+use Rattle.dvi.specs.Control.{level}
 use Rattle.hdmi.specs.Island.{island}
 use Rattle.hdmi.proofs.Once.{pair_once}
 use Rattle.hdmi.proofs.Period.{level_lt, pair_lt}

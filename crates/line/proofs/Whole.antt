@@ -1,15 +1,15 @@
 -- `init_data_island` and `encode_data_island`, in either order, fix all 56 words, whatever the line held; and what each writes and leaves, place by place.
-use mathlib.Core.Path.{◌≡◌, refl, sym, ap, ◌∙◌}
-use mathlib.Core.Bool.{Bool, true, false, not, cond}
-use mathlib.Core.List.{List, [], ◌∷◌, ◌++◌}
+use mathlib.Core.Path.{◌≡◌, refl, ap, ◌∙◌}
+use mathlib.Core.Bool.{true, not, cond}
+use mathlib.Core.List.{List}
 use Prim.Native.Nat.{ℕ, ◌<◌}
-use lib.Dec.{eqb, ltb}
+use lib.Dec.{ltb}
 use lib.ListN.{length, get_or, take, drop, replicate}
 use Rattle.laws.proofs.Spines.{spine, on_spine, length_made}
 use Rattle.laws.proofs.Tables.{made_at}
 use Rattle.hdmi.specs.Island.{island}
 use Rattle.hdmi.proofs.Island.{length-island}
-use Rattle.refusal.specs.declared.Refusal.TheVariants.{Length, Unlisted}
+use Rattle.refusal.specs.declared.Refusal.TheVariants.{Unlisted}
 use Rattle.refusal.specs.declared.Verdict.{Verdict}
 use Rattle.refusal.specs.declared.Verdict.TheVariants.{Fine}
 use Rattle.refusal.specs.Verdict.{verdict, kept}
@@ -18,9 +18,8 @@ use Rattle.timing.specs.Command.{commanded}
 use Rattle.timing.specs.Sync.{pair_for}
 use Rattle.timing.specs.Timing.{timing_asks}
 use Rattle.refusal.proofs.Upward.{held}
-use Rattle.line.specs.Asks.{long_as, known_state, line_asks, island_asks}
+use Rattle.line.specs.Asks.{line_asks, island_asks}
 use Rattle.line.specs.Line.{v_sync, lead, island_words, command_place, replaced, init_line, encode_line}
-use Rattle.line.proofs.Ready.{island-held}
 use Rattle.line.proofs.Stores.{around, length-lead}
 
 -- ---- place by place

@@ -1,19 +1,18 @@
 -- What the lines put on the wire, each command word expanded as the datasheet says, for every accepted timing.
-use mathlib.Core.Path.{◌≡◌, refl, sym, ap, ap₂, ◌∙◌}
+use mathlib.Core.Path.{◌≡◌, refl, ap, ◌∙◌}
 use mathlib.Core.Bool.{Bool, true, false}
-use mathlib.Core.List.{List, [], ◌∷◌, ◌++◌, append-nil, append_assoc}
+use mathlib.Core.List.{List, ◌++◌, append-nil, append_assoc}
 use Prim.Native.Nat.{ℕ, ◌+◌, ◌-◌, ◌≤◌, ◌<◌}
 use native.Mathlib.Omega.{arith}
-use lib.Dec.{eqb}
 use lib.ListN.{length, replicate, length-append, length-replicate, replicate-append-replicate}
 use borrow.Author.Tests.{ne_eqb}
 use Rattle.hdmi.specs.Island.{island}
-use Rattle.hdmi.specs.Period.{video_preamble, data_preamble, video_guard}
+use Rattle.hdmi.specs.Period.{data_preamble}
 use Rattle.hdmi.proofs.Island.{length-island}
 use Rattle.refusal.specs.declared.Verdict.TheVariants.{Fine}
 use Rattle.refusal.specs.Verdict.{verdict}
 use Rattle.timing.specs.declared.DviTiming.{DviTiming}
-use Rattle.timing.specs.Command.{expand, sent}
+use Rattle.timing.specs.Command.{expand}
 use Rattle.timing.specs.Sync.{pair_for, sync_for}
 use Rattle.timing.specs.Timing.{timing_asks}
 use Rattle.timing.proofs.Expanding.{expands}

@@ -1,5 +1,5 @@
 -- The lines of timing.rs, each as the sends that it asks the command expander for, and as the words that ask for them.
-use Rattle.std.specs.Prelude.{Bool, true, false, not, cond, ◌||◌, List, [], ◌∷◌, ◌++◌, ℕ, ◌+◌, ◌-◌, eqb, get_or, replicate}
+use Rattle.std.specs.Prelude.{Bool, true, false, not, cond, ◌||◌, List, [], ◌∷◌, ◌++◌, ℕ, ◌-◌, eqb, get_or, replicate}
 use Rattle.laws.proofs.Tables.{made}
 use Rattle.hdmi.specs.Island.{island}
 use Rattle.hdmi.specs.Period.{video_preamble, data_preamble, preamble_length, guard_length, video_guard}

@@ -1,4 +1,6 @@
 // The words of a line for the command expander, after timing.rs: blanking with a sync pulse, a line with no pixels, blanking with an island.
+#![tactic(auto)]
+
 ghost use Rattle.std.specs.Prelude.{false, ◌≡◌, ◌<◌, length, replicate};
 ghost use Rattle.hdmi.specs.Island.{island};
 ghost use Rattle.hdmi.specs.Period.{video_preamble, data_preamble};
