@@ -5,7 +5,7 @@
  * word of three lanes as four. A buffer may lie at any address.
  *
  * Nothing is kept between calls and nothing is shared, so any thread, core or interrupt may call, each with buffers of its own. On a Cortex-M33 no call
- * needs more than 784 bytes of stack, and most need less than 64; docs/BENCHMARKS.md has each function's.
+ * needs more than 768 bytes of stack, and most need less than 64; docs/BENCHMARKS.md has each function's.
  *
  * A whole example, include/example.c:
  *
