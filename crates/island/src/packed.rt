@@ -1,5 +1,5 @@
 // The 256 packed words of data_island.rs: lanes 1 and 2 of a character, by the byte that has the bit pair of subpacket s at bit 2 s. Their rule is
-// `twoLanes` (specs/Pairs.antt).
+// `two_lanes` (specs/Pairs.antt).
 pub const PACKED: [u32; 256] = [
     0x29ca7000, 0x29c98c00, 0x263a7000, 0x26398c00, 0x29cb9000, 0x29cb8800, 0x263b9000, 0x263b8800,
     0x2e4a7000, 0x2e498c00, 0x2e2a7000, 0x2e298c00, 0x2e4b9000, 0x2e4b8800, 0x2e2b9000, 0x2e2b8800,
