@@ -5,9 +5,13 @@ HEADS is a module of the board's triple, of which the data layout and the triple
   1. data layout, triple, and the attributes that name x86-64;
   2. of the exported functions, which make slices and hand on to the proved ones: a length is a size_t of 32 bits, widened with zeros where the slice
      is made, and an answer of 16 bytes goes where the caller says, as the C conventions of Arm and RISC-V have it, and not into two registers.
+  3. in every other function: the kit lays what is behind a pointer 8 bytes on, as 64 bits have it, and so it lies on a board too. An aggregate of which a
+     part would lie elsewhere on a board, as the pointer of an `Option<&T>`, is loaded and stored part by part, each where the kit has it. And an address
+     that is taken for a number has 32 bits, widened with zeros.
 A timing by value (byval) and VGA's timing (a pointer handed in and back) are what those conventions have already.
 
-An exported function whose lines aren't all of known form is refused, and so is a module in which anything else would change or x86-64 is still named.
+An exported function whose lines aren't all of known form is refused, and so is a module in which anything else would change or x86-64 is still named, or
+which has an aggregate with a pointer in a place that isn't known.
 """
 import re
 import sys
@@ -80,6 +84,74 @@ def crossing(function):
     return out
 
 
+# ---- pointers in memory
+
+AGGREGATE = re.compile(r"\{ [^{}]* \}")
+LOADED = re.compile(r"^  (%\w+) = load (\{ [^{}]* \}), ptr (%\w+), align (\d+)$")
+STORED = re.compile(r"^  store (\{ [^{}]* \}) (%\w+), ptr (%\w+), align (\d+)$")
+ADDRESS = re.compile(r"^  (%\w+) = ptrtoaddr ptr (%\w+) to i64$")
+# As values, aggregates have no layout.
+VALUES = re.compile(r"^(?:define|declare|  (?:%\w+ = )?(?:tail )?(?:call|extractvalue|insertvalue|phi|select|ret)) ")
+
+
+def offsets(aggregate, pointer):
+    """Where the parts of an aggregate lie, where a pointer has so many bytes."""
+    places, end = [], 0
+    for part in aggregate[2:-2].split(", "):
+        number = re.match(r"^i(\d+)$", part)
+        if not number and part != "ptr":
+            raise Refused(f"an aggregate with a part that isn't known: {aggregate}")
+        size = max(1, int(number[1]) // 8) if number else pointer
+        if size not in (1, 2, 4, 8):
+            raise Refused(f"an aggregate with a part that isn't known: {aggregate}")
+        end += -end % size
+        places.append(end)
+        end += size
+    return places
+
+
+def lies_elsewhere(aggregate):
+    return "ptr" in aggregate and offsets(aggregate, 4) != offsets(aggregate, 8)
+
+
+def part_by_part(line, aggregate, value, address, align):
+    """The same load or store, each part where 64 bits have it."""
+    out, whole = [], "poison"
+    parts = aggregate[2:-2].split(", ")
+    for i, (part, offset) in enumerate(zip(parts, offsets(aggregate, 8))):
+        place, one = address, f"{value}.part{i}"
+        if offset:
+            place = f"{value}.place{i}"
+            out.append(f"  {place} = getelementptr i8, ptr {address}, i64 {offset}")
+        known = min(int(align), offset & -offset) if offset else int(align)
+        if STORED.match(line):
+            out += [f"  {one} = extractvalue {aggregate} {value}, {i}", f"  store {part} {one}, ptr {place}, align {known}"]
+        else:
+            name = value if i + 1 == len(parts) else f"{value}.first{i + 1}"
+            out += [f"  {one} = load {part}, ptr {place}, align {known}", f"  {name} = insertvalue {aggregate} {whole}, {part} {one}, {i}"]
+            whole = name
+    return out
+
+
+def at_32_bits(lines):
+    """The lines of a function that isn't exported, for a board."""
+    out = []
+    for line in lines:
+        loaded, stored, address = LOADED.match(line), STORED.match(line), ADDRESS.match(line)
+        elsewhere = [a for a in AGGREGATE.findall(line) if lies_elsewhere(a)]
+        if address:
+            out += [f"  {address[1]}.32 = ptrtoaddr ptr {address[2]} to i32", f"  {address[1]} = zext i32 {address[1]}.32 to i64"]
+        elif not elsewhere or VALUES.match(line):
+            out.append(line)
+        elif loaded:
+            out += part_by_part(line, loaded[2], loaded[1], loaded[3], loaded[4])
+        elif stored:
+            out += part_by_part(line, stored[1], stored[2], stored[3], stored[4])
+        else:
+            raise Refused(f"an aggregate with a pointer in a line that isn't known: {line}")
+    return out
+
+
 def heads_of(text):
     """The data layout and the triple of a module."""
     heads = {}
@@ -97,6 +169,8 @@ def outside_functions(line, heads):
     found = re.match(r"^target (datalayout|triple) = ", line)
     if found:
         return heads[found[1]]
+    if line.startswith("@") and "ptr" in line:
+        raise Refused(f"a constant with a pointer: {line}")
     return X86_ATTRIBUTES.sub("", line) if line.startswith("attributes ") else line
 
 
@@ -105,12 +179,12 @@ def retargeted(text, heads):
     for i, part in enumerate(module.parts):
         if not isinstance(part, Function):
             module.parts[i] = outside_functions(part, heads)
-        elif not part.internal:
-            part.lines = crossing(part)
+        else:
+            part.lines = at_32_bits(part.lines) if part.internal else crossing(part)
     out = str(module)
-    inner = [[f.lines for f in Module(t).functions() if f.internal] for t in (text, out)]
-    if inner[0] != inner[1]:
-        raise Refused("a function that isn't exported would change")
+    before, after = ([f.lines for f in Module(t).functions() if f.internal] for t in (text, out))
+    if [at_32_bits(lines) for lines in before] != after:
+        raise Refused("a function that isn't exported would change otherwise")
     named = [line for line in out.split("\n") if "x86" in line and not line.startswith(";")]
     if named:
         raise Refused(f"x86-64 is still named: {named[0]}")

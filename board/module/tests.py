@@ -197,6 +197,52 @@ class Retarget(unittest.TestCase):
     def test_another_line_is_refused(self):
         self.refused(ANSWERING.replace("start:", "start:\n  fence seq_cst"), "a line that isn't known")
 
+    def inner(self, line):
+        """An inner function of this line, turned: what stands between its first line and its last."""
+        out = self.turned(INNER.replace("  ret i64", line + "\n  ret i64"))
+        return out[out.index("start:\n") + 7:out.index("  ret i64")]
+
+    def test_a_pointer_behind_a_byte_is_loaded_where_64_bits_have_it(self):
+        self.assertEqual(self.inner("  %r1 = load { i8, ptr }, ptr %r0, align 8"),
+                         "  %r1.part0 = load i8, ptr %r0, align 8\n"
+                         "  %r1.first1 = insertvalue { i8, ptr } poison, i8 %r1.part0, 0\n"
+                         "  %r1.place1 = getelementptr i8, ptr %r0, i64 8\n"
+                         "  %r1.part1 = load ptr, ptr %r1.place1, align 8\n"
+                         "  %r1 = insertvalue { i8, ptr } %r1.first1, ptr %r1.part1, 1\n")
+
+    def test_and_stored_there(self):
+        self.assertEqual(self.inner("  store { i32, ptr } %r1, ptr %r0, align 4"),
+                         "  %r1.part0 = extractvalue { i32, ptr } %r1, 0\n"
+                         "  store i32 %r1.part0, ptr %r0, align 4\n"
+                         "  %r1.place1 = getelementptr i8, ptr %r0, i64 8\n"
+                         "  %r1.part1 = extractvalue { i32, ptr } %r1, 1\n"
+                         "  store ptr %r1.part1, ptr %r1.place1, align 4\n")
+
+    def test_what_lies_behind_a_pointer_is_loaded_where_64_bits_have_it(self):
+        out = self.inner("  %r1 = load { ptr, ptr, i8 }, ptr %r0, align 8")
+        self.assertEqual(out.count("i64 8\n"), 1)
+        self.assertEqual(out.count("i64 16\n"), 1)
+
+    def test_a_slice_lies_alike_and_stays(self):
+        for line in ("  %r1 = load { ptr, i64 }, ptr %r0, align 8", "  %r1 = load { i64, i64 }, ptr %r0, align 8", "  store { ptr, i64 } %r1, ptr %r0, align 8"):
+            self.assertEqual(self.inner(line), line + "\n")
+
+    def test_a_value_has_no_layout_and_stays(self):
+        for line in ("  %r2 = extractvalue { i8, ptr } %r1, 1", "  %r1 = call { i8, ptr } @f(ptr %r0)"):
+            self.assertEqual(self.inner(line), line + "\n")
+
+    def test_an_address_as_a_number_is_widened(self):
+        self.assertEqual(self.inner("  %r1 = ptrtoaddr ptr %a1 to i64"), "  %r1.32 = ptrtoaddr ptr %a1 to i32\n  %r1 = zext i32 %r1.32 to i64\n")
+
+    def test_room_for_such_an_aggregate_is_refused(self):
+        self.refused(INNER.replace("  ret i64", "  %r1 = alloca { i8, ptr }, align 8\n  ret i64"), "in a line that isn't known")
+
+    def test_an_aggregate_within_another_is_refused(self):
+        self.refused(INNER.replace("  ret i64", "  %r1 = load { float, ptr }, ptr %r0, align 8\n  ret i64"), "a part that isn't known")
+
+    def test_a_constant_with_a_pointer_is_refused(self):
+        self.refused(INNER + "\n@static.0 = private unnamed_addr constant { ptr, i64 } { ptr @f, i64 1 }, align 8", "a constant with a pointer")
+
     def test_a_name_of_x86_64_that_is_left_is_refused(self):
         self.refused(INNER + '\n!0 = !{!"x86"}', "still named")
 
