@@ -1,35 +1,35 @@
--- A count within its block: what the two tests of the code say of it.
-use mathlib.Core.Path.{◌≡◌, refl}
-use mathlib.Core.Bool.{true, false}
-use Prim.Native.Nat.{ℕ, ◌≤◌}
+-- A count within its block, and the mark of the frame that starts one.
+use mathlib.Core.Path.{◌≡◌, ap}
+use mathlib.Core.Bool.{true}
+use mathlib.Core.Logic.{⊎_elim}
+use Prim.Native.Nat.{ℕ, ◌≤◌, ◌<◌, min}
 use native.Mathlib.Omega.{arith}
-use borrow.Author.Tests.{le-leb, lt-leb, ltb-false}
-use lib.Dec.{T, ltb→lt}
+use borrow.Author.Tests.{le-ltb}
+use lib.Dec.{leb, leb→le}
 use lib.IntN.{ℤ, pos, negsuc, nat_abs}
-use lib.Signed.{lt_z, non_neg}
+use mir.Syntax.{w32}
+use mir.Val.{of_z, to_z}
+use mir.Facts.{to_z_pos}
+use Rattle.std.proofs.lemmas.Bool.{cases_lt}
 use Rattle.laws.specs.Range.{between}
-use Rattle.laws.proofs.Truth.{true_T, false_T}
+use Rattle.laws.proofs.Truth.{true_T, and_right}
+use Rattle.hdmi.specs.Audio.{block_start}
 
--- not below 0, and not above h
-module _ (h : ℕ) where
-  pub under : (z : ℤ) → lt_z z (pos 0) ≡ true → between (pos 0) (pos h) z ≡ false
-  under (pos n) e = absurd (omega (arith, ltb→lt n 0 (true_T e)))
-  under (negsuc n) e = refl
+-- a count of 0..191 is a natural number, and its 32 bits are that number's
+pub record Within (z : ℤ) : Type 0 where
+  pub bounded : nat_abs z < 192
+  pub bits : of_z w32 (to_z w32 (of_z w32 z)) ≡ nat_abs z
 
-  pub over : (z : ℤ) → lt_z (pos h) z ≡ true → between (pos 0) (pos h) z ≡ false
-  over (pos n) e = rw (le-leb 0 n (omega arith), lt-leb n h (ltb→lt h n (true_T e)))
-  over (negsuc n) e = refl
+pub within : (z : ℤ) → between (pos 0) (pos 191) z ≡ true → Within z
+within (pos n) e =
+    let small : n ≤ 191 = leb→le n 191 (and_right (leb 0 n) (leb n 191) (true_T e)) in
+    record { bounded = omega arith; bits = ap (of_z w32) (to_z_pos w32 {n = n} (omega arith)) }
+within (negsuc n) e = absurd (cc)
 
-  pub record Within (z : ℤ) : Type 0 where
-    pub inside : between (pos 0) (pos h) z ≡ true
-    pub natural : T (non_neg z)
-    pub bounded : nat_abs z ≤ h
-
-  pub within : (z : ℤ) → lt_z z (pos 0) ≡ false → lt_z (pos h) z ≡ false → Within z
-  within (pos n) e f =
-      record {
-        inside = rw (le-leb 0 n (omega arith), le-leb n h (ltb-false h n f));
-        natural = tt;
-        bounded = ltb-false h n f;
-      }
-  within (negsuc n) e f = absurd (false_T e tt)
+-- of the counts from 4 on none marks a frame
+pub start_within : (n c m : ℕ) → m ≡ min c 4 → block_start n m ≡ block_start n c
+start_within n c m e =
+    ⊎_elim
+    (λ (l : c < 4). let same : m ≡ c = omega arith in ap (block_start n) same)
+    (λ (g : 4 ≤ c). let four : m ≡ 4 = omega arith in rw (four, le-ltb c 4 g))
+    (cases_lt c 4)

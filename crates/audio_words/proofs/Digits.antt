@@ -56,7 +56,7 @@ by_digits f l x h =
     (apart f l 8 y ∙ ap₂ (λ (a b : ℕ). bit_xor (f a) (f b)) y-high y-low
     ∙ ap (λ (v : ℕ). bit_xor v (f (x / 16 % 16 * 16))) (apart f l 12 z ∙ ap₂ (λ (a b : ℕ). bit_xor (f a) (f b)) z-high z-low))
 
--- the arms' rule is what a digit adds, at each of the four places
+-- the table's rule is what a digit adds, at each of the four places
 abbrev Digits : (at p : ℕ) → Type 0
 Digits at p = (m : ℕ) → m < 64 → digit_rule (at + 4 * (m / 16)) p (m % 16) ≡ added at p (m % 16 * 16 ^ (m / 16))
 

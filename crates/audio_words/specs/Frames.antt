@@ -1,4 +1,4 @@
--- The words of the audio packet: a header and subpackets with their parity bytes, and what the arms that hold them are held to.
+-- The words of the audio packet: a header and subpackets with their parity bytes, and the rules of the tables that hold them.
 use Rattle.std.specs.Prelude.{◌≡◌, List, [], ◌∷◌, ℕ, ◌+◌, ◌-◌, ◌*◌, ◌/◌, ◌%◌, ◌^◌, ◌<◌, ℤ, get_or}
 use Rattle.laws.specs.Bytes.{low_first}
 use Rattle.hdmi.specs.Parity.{register, bits_of, with_parity}
@@ -26,16 +26,11 @@ odd_digit x = (x % 2 + x / 2 % 2 + x / 4 % 2 + x / 8 % 2) % 2
 abbrev pub digit_rule : (at p : ℕ) → ℕ → ℕ
 digit_rule at p x = sealed_bits 56 (x * 2 ^ at + odd_digit x * 2 ^ p)
 
-abbrev pub digit_key : (at : ℕ) → ℕ → ℕ
-digit_key at w = w / 2 ^ at % 16
+-- the same by the digit's place in a frame: 0..3 are the left sample's, the lowest first, and 4..7 the right one's
+abbrev pub place_rule : (place : ℕ) → ℕ → ℕ
+place_rule place x = digit_rule (8 + 4 * place + 8 * (place / 4)) (51 + 4 * (place / 4)) x
 
 -- ---- headers
 
 abbrev pub header_rule : ℕ → ℕ
 header_rule x = sealed_bits 24 (2 + 2 ^ 8 * (2 ^ (x / 5) - 1) + 2 ^ 16 * block_start 0 (x % 5))
-
--- as many frames as bits 8..11 have ones, and the place of the one in bits 20..23, or 4
-abbrev pub header_key : ℕ → ℕ
-header_key w =
-    5 * (w / 2 ^ 8 % 2 + w / 2 ^ 9 % 2 + w / 2 ^ 10 % 2 + w / 2 ^ 11 % 2)
-    + (4 - (4 * (w / 2 ^ 20 % 2) + 3 * (w / 2 ^ 21 % 2) + 2 * (w / 2 ^ 22 % 2) + w / 2 ^ 23 % 2))

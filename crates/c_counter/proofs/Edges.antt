@@ -1,19 +1,18 @@
 -- Each bound at its edge, as the answer says it; the counter comes back from its carry; and no row is taken for none.
-use mathlib.Core.Path.{◌≡◌, refl, ap}
+use mathlib.Core.Path.{◌≡◌, refl}
 use mathlib.Core.Bool.{Bool, true, false, cond, ◌&&◌}
 use Prim.Native.Nat.{ℕ, ◌-◌, ◌^◌, ◌<◌}
 use native.Mathlib.Omega.{arith}
 use lib.Dec.{T, leb, ltb, leb→le, ltb→lt}
 use lib.IntN.{pos, negsuc}
+use Rattle.std.specs.Prelude.{Ok, Some, None}
 use Rattle.laws.proofs.Truth.{and_left, and_right}
 use Rattle.refusal.specs.declared.Refusal.TheVariants.{LineCounter, LineOffset}
-use Rattle.refusal.specs.declared.Verdict.TheVariants.{Fine}
 use Rattle.refusal.specs.Verdict.{verdict}
 use Rattle.timing.specs.declared.DviTiming.{DviTiming}
 use Rattle.timing.specs.LineState.{state_at}
 use Rattle.timing.specs.Timing.{ranges, timing_asks, inactive, total, vga}
 use Rattle.timing.proofs.Ranges.{accepted}
-use Rattle.counter.specs.declared.Scanline.{Scanline}
 use Rattle.counter.specs.Counter.{counter_at, advance_of, v_state_of, row_at, scanline_of}
 use Rattle.crossing.specs.declared.Answer.{Answer}
 use Rattle.crossing.specs.Crossing.{given, refused}
@@ -58,16 +57,14 @@ row-edges = (refl, refl, refl, refl, refl, refl, refl)
 
 -- ---- no row of an accepted timing has the number that stands for none
 
-abbrev number : Scanline → ℕ
-number (Scanline.Row n) = n
-number Scanline.NoRow = 0
-number (Scanline.Refused r s) = 0
+below : (b : Bool) (a y n : ℕ) → (T b → y < a) → cond b (Some y) None ≡ Some n → 0 < a → n < a
+below true a y n h e z =
+    let same : y ≡ n = cc in
+    let l = h tt in
+    omega arith
+below false a y n h e z = cc
 
-below : (b : Bool) (a y n : ℕ) → (T b → y < a) → cond b (Scanline.Row y) Scanline.NoRow ≡ Scanline.Row n → 0 < a → n < a
-below true a y n h e z = let same : y ≡ n = ap number e in let l = h tt in omega arith
-below false a y n h e z = let same : 0 ≡ n = ap number e in omega arith
-
-pub row_isn't_none : (t : DviTiming) → verdict (timing_asks t) ≡ Fine → (y n : ℕ) → row_at t y ≡ Scanline.Row n → n < no_row
+pub row_isn't_none : (t : DviTiming) → verdict (timing_asks t) ≡ Ok tt → (y n : ℕ) → row_at t y ≡ Some n → n < no_row
 unfolding row_at
 row_isn't_none t ok y n e =
     let a = accepted t ok in

@@ -3,57 +3,62 @@
 
 ghost use Rattle.std.specs.Prelude.{◌≡◌};
 ghost use Rattle.counter.specs.Counter.{counter_at, advance_of, v_state_of, scanline_of};
+ghost use Rattle.crossing.specs.Crossing.{carried_by};
 ghost use Rattle.crossing.specs.Timing.{timing_of};
-ghost use Rattle.c_counter.specs.Crossing.{advanced, stated, shown};
+ghost use Rattle.c_counter.specs.Crossing.{carried, advanced, stated, row_number, shown};
 
-use counter::{Advanced, DviTimingState, Scanline, VState};
-use crossing::{Answer, Timing, answer_given, answer_refused, signed_32, timing_of};
+use counter::DviTimingState;
+use crossing::{Answer, Carried, Timing, signed_32};
+use refusal::Refused;
 
-fn answer_advanced(a: Advanced) -> Answer
-    ensures { result ≡ advanced a }
+// The value of an answer, carried with this counter.
+fn carrying(s: DviTimingState, value: u32) -> Carried
+    ensures { result ≡ record { value = value; carry = carried s } }
 {
-    match a {
-        Advanced::Next(s) => answer_given(0, signed_32(s.v_ctr)),
-        Advanced::Refused(r, s) => answer_refused(r, signed_32(s.v_ctr)),
+    Carried {
+        value,
+        carry: signed_32(s.v_ctr),
     }
+}
+
+// What crosses of a call on the counter: its value and the counter, or its refusal and the counter that it hands back.
+fn crossed(a: Result<Carried, Refused<DviTimingState>>) -> Answer
+    ensures { result ≡ carried_by (λ c. c.value) (λ c. c.carry) carried a }
+{
+    a.map_err(|e| e.refusal.handing_back(signed_32(e.back.v_ctr)))
+        .into()
 }
 
 pub fn counter_advance(counter: u32, timing: Timing) -> Answer
     ensures { result ≡ advanced (advance_of (timing_of timing) (counter_at counter)) }
 {
     let sent = DviTimingState::new(counter);
-    answer_advanced(sent.advance(timing_of(timing)))
-}
-
-fn answer_stated(s: DviTimingState, a: VState) -> Answer
-    ensures { result ≡ stated s a }
-{
-    match a {
-        VState::State(state) => answer_given(state.number() as u32, signed_32(s.v_ctr)),
-        VState::Refused(r, back) => answer_refused(r, signed_32(back.v_ctr)),
-    }
+    crossed(sent.advance(timing.into()).map(|next| carrying(next, 0)))
 }
 
 pub fn counter_state(counter: u32, timing: Timing) -> Answer
     ensures { result ≡ stated (counter_at counter) (v_state_of (timing_of timing) (counter_at counter)) }
 {
     let line = DviTimingState::new(counter);
-    answer_stated(line, line.v_state(timing_of(timing)))
+    crossed(
+        line.v_state(timing.into())
+            .map(|state| carrying(line, u32::from(state.number()))),
+    )
 }
 
-fn answer_shown(s: DviTimingState, a: Scanline) -> Answer
-    ensures { result ≡ shown s a }
+// The row's number, or the one that stands for none, since C has no Option.
+fn row_number(row: Option<u32>) -> u32
+    ensures { result ≡ row_number row }
 {
-    match a {
-        Scanline::Row(row) => answer_given(row, signed_32(s.v_ctr)),
-        Scanline::NoRow => answer_given(0xffff_ffff, signed_32(s.v_ctr)),
-        Scanline::Refused(r, back) => answer_refused(r, signed_32(back.v_ctr)),
-    }
+    row.unwrap_or(u32::MAX)
 }
 
 pub fn counter_row(counter: u32, timing: Timing, offset: u32) -> Answer
     ensures { result ≡ shown (counter_at counter) (scanline_of (timing_of timing) (counter_at counter) offset) }
 {
     let from = DviTimingState::new(counter);
-    answer_shown(from, from.v_scanline_index(timing_of(timing), offset))
+    crossed(
+        from.v_scanline_index(timing.into(), offset)
+            .map(|row| carrying(from, row_number(row))),
+    )
 }

@@ -11,9 +11,8 @@ use Rattle.laws.proofs.Searching.{first_le}
 use Rattle.hdmi.specs.Parity.{right}
 use Rattle.hdmi.specs.Packet.{subpacket}
 use Rattle.refusal.specs.declared.Refusal.{Refusal}
-use Rattle.refusal.specs.declared.Verdict.{Verdict}
 use Rattle.refusal.specs.Refusal.{place_of}
-use Rattle.refusal.specs.Verdict.{Ask, unless, verdict, verdict_place}
+use Rattle.refusal.specs.Verdict.{Ask, unless, verdict, verdict_place, Verdict}
 use Rattle.island_reader.specs.Found.{pair_of, packet_found}
 use Rattle.island_reader.specs.Read.{nowhere, word_asks, high_bits, guard_place, guard_wrong, lane_wrong, sync_wrong}
 use Rattle.c_island.specs.Asks.{words_in, read_island_asks}

@@ -1,9 +1,9 @@
 -- What the island entries ask where the words are lent as bytes: four bytes for each of 36 words, then what they ask of the words.
-use Rattle.std.specs.Prelude.{List, ◌∷◌, ℕ, get_or}
+use Rattle.std.specs.Prelude.{List, ◌∷◌, ℕ, get_or, Result, Ok, Err}
 use Rattle.laws.specs.Bytes.{numbers_of}
+use Rattle.refusal.specs.declared.Refusal.{Refusal}
 use Rattle.refusal.specs.Verdict.{Ask, verdict, answered, kept}
 use Rattle.island.specs.Encode.{encode_asks}
-use Rattle.island_reader.specs.declared.IslandRead.{IslandRead}
 use Rattle.island_reader.specs.Found.{pair_of, packet_found}
 use Rattle.island_reader.specs.Read.{read_asks}
 use Rattle.word_bytes.specs.Words.{words_ask}
@@ -19,8 +19,8 @@ abbrev pub read_island_asks : List ℕ → List ℕ → List Ask
 read_island_asks lent packet = words_ask 36 lent ∷ read_asks (words_in lent) packet
 
 -- the sync pair, or the refusal; and the packet where there is none
-abbrev pub read_island_of : List ℕ → List ℕ → IslandRead
-read_island_of lent packet = answered (verdict (read_island_asks lent packet)) (IslandRead.SyncPair (pair_of (get_or (words_in lent) 0 0))) IslandRead.Refused
+abbrev pub read_island_of : List ℕ → List ℕ → Result ℕ Refusal
+read_island_of lent packet = answered (verdict (read_island_asks lent packet)) (Ok (pair_of (get_or (words_in lent) 0 0))) Err
 
 abbrev pub read_island_out : List ℕ → List ℕ → List ℕ
 read_island_out lent packet = kept (verdict (read_island_asks lent packet)) (packet_found (words_in lent)) packet

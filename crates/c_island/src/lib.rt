@@ -1,4 +1,4 @@
-// TERC4 and islands on numbers and bytes: each of an island's 36 words is four bytes, the low byte first.
+// TERC4 and islands on numbers and bytes: each of an island's 36 words is four bytes, the low byte first. They go through scratch words: there is no heap.
 #![tactic(auto)]
 
 ghost use Rattle.std.specs.Prelude.{◌≡◌};
@@ -10,31 +10,21 @@ ghost use Rattle.crossing.specs.Crossing.{told};
 ghost use Rattle.c_island.specs.Asks.{encode_island_asks, read_island_of, read_island_out};
 ghost use Rattle.c_island.specs.Crossing.{terc4_symbol, terc4_read, island_read};
 
-use crossing::{Answer, answer_given, answer_refused, answer_told};
-use island_reader::IslandRead;
-use refusal::Verdict;
+use crossing::Answer;
+use refusal::Refusal;
 use symbol::TmdsSymbol;
-use terc4::{Terc4, Terc4Number};
 use word_bytes::{words_lent, words_told};
 
 pub fn terc4_symbol(number: u8) -> Answer
     ensures { result ≡ terc4_symbol (symbol_answer number) }
 {
-    let a = terc4::symbol(number);
-    match a {
-        Terc4::Symbol(s) => answer_given(s.0 as u32, 0),
-        Terc4::Refused(r) => answer_refused(r, 0),
-    }
+    terc4::symbol(number).map(|s| u32::from(s.0)).into()
 }
 
 pub fn read_terc4(symbol: u16) -> Answer
     ensures { result ≡ terc4_read (read_answer symbol) }
 {
-    let a = terc4::read(TmdsSymbol(symbol));
-    match a {
-        Terc4Number::Number(n) => answer_given(n as u32, 0),
-        Terc4Number::Refused(r) => answer_refused(r, 0),
-    }
+    terc4::read(TmdsSymbol(symbol)).map(u32::from).into()
 }
 
 pub fn encode_island(hv: u8, packet: &[u8], words: &mut [u8]) -> Answer
@@ -46,23 +36,19 @@ pub fn encode_island(hv: u8, packet: &[u8], words: &mut [u8]) -> Answer
     words_told(v, &scratch, words)
 }
 
-fn answer_read(a: IslandRead) -> Answer
-    ensures { result ≡ island_read a }
+// The words that the bytes are, read.
+fn read(words: &[u8], packet: &mut [u8]) -> Result<u8, Refusal>
+    ensures answer { result ≡ read_island_of words.now packet.old }
+    ensures written { packet.new ≡ read_island_out words.now packet.old }
 {
-    match a {
-        IslandRead::SyncPair(hv) => answer_given(hv as u32, 0),
-        IslandRead::Refused(r) => answer_refused(r, 0),
-    }
+    let mut scratch = [0u32; 36];
+    words_lent(words, &mut scratch)?;
+    quick_reader::read(&scratch, packet)
 }
 
 pub fn read_island(words: &[u8], packet: &mut [u8]) -> Answer
     ensures answer { result ≡ island_read (read_island_of words.now packet.old) }
     ensures written { packet.new ≡ read_island_out words.now packet.old }
 {
-    let mut scratch = [0u32; 36];
-    let v = words_lent(words, &mut scratch);
-    let Verdict::Fine = v else {
-        return answer_told(v);
-    };
-    answer_read(quick_reader::read(&scratch, packet))
+    read(words, packet).map(u32::from).into()
 }

@@ -11,24 +11,24 @@ ghost use Rattle.packet.specs.Asks.{avi_asks};
 ghost use Rattle.refusal.specs.Verdict.{verdict, kept};
 ghost use Rattle.crossing.specs.Crossing.{given, told};
 
-use crossing::{Answer, answer_given, answer_told};
+use crossing::Answer;
 
 pub fn parity(block: &[u8]) -> Answer
     ensures { result ≡ given (parity block.now) (pos 0) }
 {
-    answer_given(parity::compute_bch(block) as u32, 0)
+    Answer::given(u32::from(parity::compute_bch(block)), 0)
 }
 
 pub fn set_audio_clock_regeneration(packet: &mut [u8], cts: u32, n: u32) -> Answer
     ensures { (result ≡ told (verdict (clock_asks packet.old cts n))) × (packet.new ≡ kept (verdict (clock_asks packet.old cts n)) (clock_packet cts n) packet.old) }
 {
-    answer_told(clock::set_audio_clock_regeneration(packet, cts, n))
+    Answer::from(clock::set_audio_clock_regeneration(packet, cts, n))
 }
 
 pub fn set_audio_info_frame(packet: &mut [u8], rate: u32) -> Answer
     ensures { (result ≡ told (verdict (packet_asks packet.old))) × (packet.new ≡ kept (verdict (packet_asks packet.old)) (audio_info_frame rate) packet.old) }
 {
-    answer_told(packet::set_audio_info_frame(packet, rate))
+    Answer::from(packet::set_audio_info_frame(packet, rate))
 }
 
 pub fn set_avi_info_frame(
@@ -43,5 +43,5 @@ pub fn set_avi_info_frame(
 ) -> Answer
     ensures { (result ≡ told (verdict (avi_asks packet.old s y c m r q v))) × (packet.new ≡ kept (verdict (avi_asks packet.old s y c m r q v)) (avi_info_frame s y c m r q v) packet.old) }
 {
-    answer_told(packet::set_avi_info_frame(packet, s, y, c, m, r, q, v))
+    Answer::from(packet::set_avi_info_frame(packet, s, y, c, m, r, q, v))
 }

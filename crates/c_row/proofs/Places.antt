@@ -7,17 +7,17 @@ use native.Mathlib.Nat.{mod-eq_of_lt}
 use native.Mathlib.Omega.{arith}
 use lib.Dec.{T, leb, leb→le, eqb}
 use lib.ListN.{length, get_or}
+use Rattle.std.specs.Prelude.{Ok}
 use Rattle.laws.proofs.Searching.{first_le}
 use Rattle.laws.proofs.Truth.{and_left}
 use Rattle.dvi.specs.Decoder.{is_data}
 use Rattle.refusal.specs.declared.Refusal.TheVariants.{Length, NotData}
-use Rattle.refusal.specs.declared.Verdict.TheVariants.{Fine}
 use Rattle.refusal.specs.Verdict.{unless, verdict, verdict_place}
 use Rattle.row.specs.Answer.{lengths_fit}
 use Rattle.row_reader.specs.Answer.{first_bad}
 use Rattle.row_reader.specs.Wire.{symbols_in, read_bytes_asks}
 
-asked : (even fits known : Bool) (n : ℕ) → (T fits → n ≤ 4096) → verdict_place (unless even Length (unless fits Length (unless known (NotData n) Fine))) ≤ 4096
+asked : (even fits known : Bool) (n : ℕ) → (T fits → n ≤ 4096) → verdict_place (unless even Length (unless fits Length (unless known (NotData n) (Ok tt)))) ≤ 4096
 asked true true true n h = omega arith
 asked true true false n h = h tt
 asked true false known n h = omega arith

@@ -8,23 +8,18 @@ ghost use Rattle.row_reader.specs.Wire.{read_bytes_asks, read_bytes_out};
 ghost use Rattle.crossing.specs.Crossing.{told};
 ghost use Rattle.c_row.specs.Crossing.{row_ended};
 
-use crossing::{Answer, answer_given, answer_refused, answer_told};
-use row::RowEncoded;
+use crossing::Answer;
 
 pub fn encode_row(discrepancy: i32, bytes: &[u8], symbols: &mut [u8]) -> Answer
     ensures answer { result ≡ row_ended (encode_bytes_of discrepancy bytes.now (length symbols.old)) }
     ensures symbols { symbols.new ≡ encode_bytes_out discrepancy bytes.now symbols.old }
 {
-    let a = row::encode_row_bytes(discrepancy, bytes, symbols);
-    match a {
-        RowEncoded::Done(d) => answer_given(0, d),
-        RowEncoded::Refused(r, d) => answer_refused(r, d),
-    }
+    Answer::from(row::encode_row_bytes(discrepancy, bytes, symbols))
 }
 
 pub fn read_row(symbols: &[u8], bytes: &mut [u8]) -> Answer
     ensures answer { result ≡ told (verdict (read_bytes_asks symbols.now (length bytes.old))) }
     ensures bytes { bytes.new ≡ read_bytes_out symbols.now bytes.old }
 {
-    answer_told(row_reader::read_row_bytes(symbols, bytes))
+    Answer::from(row_reader::read_row_bytes(symbols, bytes))
 }

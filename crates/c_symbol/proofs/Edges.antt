@@ -2,10 +2,11 @@
 use mathlib.Core.Path.{◌≡◌, refl, sym, ap, ◌∙◌}
 use Prim.Native.Nat.{ℕ}
 use lib.IntN.{pos, negsuc}
+use Rattle.refusal.specs.declared.Refusal.{Refusal}
+use Rattle.std.specs.Prelude.{Result}
 use Rattle.refusal.specs.declared.Refusal.TheVariants.{Discrepancy, Unlisted}
 use Rattle.symbol.specs.Encode.{encode_of}
 use Rattle.symbol.specs.Pair.{join_of}
-use Rattle.symbol.specs.declared.SymbolRead.{SymbolRead}
 use Rattle.symbol.specs.Read.{Reads}
 use Rattle.symbol.proofs.Reading.{one_answer}
 use Rattle.crossing.specs.declared.Answer.{Answer}
@@ -34,5 +35,5 @@ pub eleven_bits : (joined (join_of 1024 0) ≡ refused Unlisted (pos 0)) × (joi
 eleven_bits = (refl, refl)
 
 -- what is said of `read_symbol` leaves no choice
-pub read_once : (s : ℕ) (r q : Answer) → ((a : SymbolRead) × (Reads s a × (r ≡ read a))) → ((b : SymbolRead) × (Reads s b × (q ≡ read b))) → r ≡ q
+pub read_once : (s : ℕ) (r q : Answer) → ((a : Result ℕ Refusal) × (Reads s a × (r ≡ read a))) → ((b : Result ℕ Refusal) × (Reads s b × (q ≡ read b))) → r ≡ q
 read_once s r q (a, p) (b, h) = p.1 ∙ ap read (one_answer s a b p.0 h.0) ∙ sym h.1

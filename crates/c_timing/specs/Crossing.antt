@@ -1,14 +1,12 @@
 -- How command words and the control word of a timing cross.
-use Rattle.std.specs.Prelude.{pos}
-use Rattle.timing.specs.declared.CommandWord.{CommandWord}
-use Rattle.timing.specs.declared.SyncWord.{SyncWord}
+use Rattle.symbol.specs.declared.Tmds3.{Tmds3}
+use Rattle.refusal.specs.declared.Refusal.{Refusal}
+use Rattle.std.specs.Prelude.{ℕ, Result}
 use Rattle.crossing.specs.declared.Answer.{Answer}
-use Rattle.crossing.specs.Crossing.{given, refused}
+use Rattle.crossing.specs.Crossing.{answered_by}
 
-abbrev pub commanded : CommandWord → Answer
-commanded (CommandWord.Word w) = given w (pos 0)
-commanded (CommandWord.Refused r) = refused r (pos 0)
+abbrev pub commanded : Result ℕ Refusal → Answer
+commanded = answered_by (λ w. w)
 
-abbrev pub synced : SyncWord → Answer
-synced (SyncWord.Word w) = given w.0 (pos 0)
-synced (SyncWord.Refused r) = refused r (pos 0)
+abbrev pub synced : Result Tmds3 Refusal → Answer
+synced = answered_by (λ w. w.0)

@@ -10,57 +10,39 @@ ghost use Rattle.crossing.specs.Crossing.{told};
 ghost use Rattle.crossing.specs.Timing.{timing_of, crossing, is_on};
 ghost use Rattle.c_timing.specs.Crossing.{commanded, synced};
 
-use crossing::{
-    Answer, Timing, answer_given, answer_refused, answer_told, is_on, timing_crossing, timing_of,
-};
-use timing::{CommandWord, SyncWord};
+use crossing::{Answer, Timing, is_on};
+use symbol::Tmds3;
+use timing::DviTiming;
 
 pub fn vga_timing() -> Timing
     ensures { result ≡ crossing vga }
 {
-    timing_crossing(timing::vga_timing())
+    timing::vga_timing().into()
 }
 
 pub fn check_timing(timing: Timing) -> Answer
     ensures { result ≡ told (verdict (timing_asks (timing_of timing))) }
 {
-    let t = timing_of(timing);
-    answer_told(t.checked())
-}
-
-fn answer_synced(a: SyncWord) -> Answer
-    ensures { result ≡ synced a }
-{
-    match a {
-        SyncWord::Word(w) => answer_given(w.0, 0),
-        SyncWord::Refused(r) => answer_refused(r, 0),
-    }
+    DviTiming::from(timing).checked().into()
 }
 
 pub fn tmds3_for_sync(timing: Timing, h_sync: u8, v_sync: u8) -> Answer
     ensures { result ≡ synced (sync_word_of (timing_of timing) (is_on h_sync) (is_on v_sync)) }
 {
-    let t = timing_of(timing);
-    answer_synced(t.tmds3_for_sync(is_on(h_sync), is_on(v_sync)))
-}
-
-fn answer_commanded(a: CommandWord) -> Answer
-    ensures { result ≡ commanded a }
-{
-    match a {
-        CommandWord::Word(w) => answer_given(w, 0),
-        CommandWord::Refused(r) => answer_refused(r, 0),
-    }
+    DviTiming::from(timing)
+        .tmds3_for_sync(is_on(h_sync), is_on(v_sync))
+        .map(Tmds3::raw)
+        .into()
 }
 
 pub fn hstx_cmd_raw(words: u32) -> Answer
     ensures { result ≡ commanded (command_of 0 words) }
 {
-    answer_commanded(timing::hstx_cmd_raw(words))
+    timing::hstx_cmd_raw(words).into()
 }
 
 pub fn hstx_cmd_raw_repeat(times: u32) -> Answer
     ensures { result ≡ commanded (command_of 1 times) }
 {
-    answer_commanded(timing::hstx_cmd_raw_repeat(times))
+    timing::hstx_cmd_raw_repeat(times).into()
 }

@@ -2,13 +2,13 @@
 // has only the functions that are marked here, so each family's stand here again, with their contracts word for word, and forward to its room.
 #![tactic(auto)]
 
-ghost use Rattle.std.specs.Prelude.{◌≡◌, [], ◌∷◌, pos, length, replicate};
+ghost use Rattle.std.specs.Prelude.{◌≡◌, [], ◌∷◌, ℕ, pos, length, replicate, Result};
+ghost use Rattle.refusal.specs.declared.Refusal.{Refusal};
 ghost use Rattle.std.specs.Int.Bits.{bit_xor};
 ghost use Rattle.dvi.specs.Control.{control, pair_of};
 ghost use Rattle.symbol.specs.Encode.{encode_of};
 ghost use Rattle.symbol.specs.Pair.{join_of, word_of, end_of, balanced_of};
 ghost use Rattle.symbol.specs.Read.{Reads};
-ghost use Rattle.symbol.specs.declared.SymbolRead.{SymbolRead};
 ghost use Rattle.crossing.specs.Crossing.{given, told};
 ghost use Rattle.crossing.specs.Timing.{is_on, timing_of, crossing};
 ghost use Rattle.c_symbol.specs.Crossing.{encoded, read, joined};
@@ -51,7 +51,7 @@ pub extern "C" fn chaffrail_encode_symbol(discrepancy: i32, byte: u8) -> Answer
 
 #[unsafe(no_mangle)]
 pub extern "C" fn chaffrail_read_symbol(symbol: u16) -> Answer
-    ensures { (a : SymbolRead) × (Reads symbol a × (result ≡ read a)) }
+    ensures { (a : Result ℕ Refusal) × (Reads symbol a × (result ≡ read a)) }
 {
     c_symbol::read_symbol(symbol)
 }

@@ -1,17 +1,13 @@
 -- What the line counter answers. It runs through the lines of a frame, from 0 to the total less one, and round again.
-use Rattle.std.specs.Prelude.{cond, ◌&&◌, List, [], ◌∷◌, ◌++◌, ℕ, ◌+◌, ◌-◌, ◌%◌, leb, ltb}
+use Rattle.std.specs.Prelude.{cond, ◌&&◌, List, [], ◌∷◌, ◌++◌, ℕ, ◌+◌, ◌-◌, ◌%◌, leb, ltb, Result, Option, Ok, Err, Some, None}
 use Rattle.refusal.specs.declared.Refusal.TheVariants.{LineCounter, LineOffset}
-use Rattle.refusal.specs.Verdict.{Ask, ask, verdict, answered}
+use Rattle.timing.specs.declared.DviTimingLineState.{DviTimingLineState}
+use Rattle.refusal.specs.declared.Refused.{Refused}
+use Rattle.refusal.specs.Verdict.{Ask, ask, verdict, answered, handed_back}
 use Rattle.timing.specs.declared.DviTiming.{DviTiming}
 use Rattle.timing.specs.Timing.{inactive, total, timing_asks}
 use Rattle.timing.specs.LineState.{state_at}
 use Rattle.counter.specs.declared.DviTimingState.{DviTimingState}
-use Rattle.counter.specs.declared.Advanced.{Advanced}
-use Rattle.counter.specs.declared.Advanced.TheVariants as advanced
-use Rattle.counter.specs.declared.VState.{VState}
-use Rattle.counter.specs.declared.VState.TheVariants as vstate
-use Rattle.counter.specs.declared.Scanline.{Scanline}
-use Rattle.counter.specs.declared.Scanline.TheVariants as scanline
 
 abbrev pub below_total : DviTiming → ℕ → List Ask
 below_total t c = ask (ltb c (total t)) LineCounter ∷ []
@@ -33,17 +29,17 @@ counter_at c = record { v_ctr = c }
 abbrev pub line_after : DviTiming → ℕ → ℕ
 line_after t c = (c + 1) % total t
 
-abbrev pub advance_of : DviTiming → DviTimingState → Advanced
+abbrev pub advance_of : DviTiming → DviTimingState → Result DviTimingState (Refused DviTimingState)
 advance_of t s =
-    answered (verdict (counter_asks t s.v_ctr)) (advanced.Next (counter_at (line_after t s.v_ctr))) (λ r. advanced.Refused r s)
+    answered (verdict (counter_asks t s.v_ctr)) (Ok (counter_at (line_after t s.v_ctr))) (λ r. Err (handed_back s r))
 
-abbrev pub v_state_of : DviTiming → DviTimingState → VState
-v_state_of t s = answered (verdict (counter_asks t s.v_ctr)) (vstate.State (state_at t s.v_ctr)) (λ r. vstate.Refused r s)
+abbrev pub v_state_of : DviTiming → DviTimingState → Result DviTimingLineState (Refused DviTimingState)
+v_state_of t s = answered (verdict (counter_asks t s.v_ctr)) (Ok (state_at t s.v_ctr)) (λ r. Err (handed_back s r))
 
 -- the row that line y shows, y not folded back into a frame: past the last row there is none
-unfoldable pub row_at : DviTiming → ℕ → Scanline
-row_at t y = cond (leb (inactive t) y && ltb y (total t)) (scanline.Row (y - inactive t)) scanline.NoRow
+unfoldable pub row_at : DviTiming → ℕ → Option ℕ
+row_at t y = cond (leb (inactive t) y && ltb y (total t)) (Some (y - inactive t)) None
 
-abbrev pub scanline_of : DviTiming → DviTimingState → ℕ → Scanline
+abbrev pub scanline_of : DviTiming → DviTimingState → ℕ → Result (Option ℕ) (Refused DviTimingState)
 scanline_of t s offset =
-    answered (verdict (scanline_asks t s.v_ctr offset)) (row_at t (s.v_ctr + offset)) (λ r. scanline.Refused r s)
+    answered (verdict (scanline_asks t s.v_ctr offset)) (Ok (row_at t (s.v_ctr + offset))) (λ r. Err (handed_back s r))

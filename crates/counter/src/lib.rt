@@ -1,107 +1,59 @@
 // The line counter of timing.rs. It goes in by value and the next one comes back; a refused call hands it back as it came.
 #![tactic(auto)]
 
-ghost use Rattle.std.specs.Prelude.{◌≡◌, ◌<◌, ◌≤◌};
-ghost use Rattle.refusal.specs.Verdict.{verdict};
-ghost use Rattle.timing.specs.Timing.{total};
+ghost use Rattle.std.specs.Prelude.{◌≡◌, Ok, Err};
+ghost use Rattle.refusal.specs.Verdict.{verdict, answered, handed_back};
 ghost use Rattle.timing.specs.LineState.{state_at};
-ghost use Rattle.counter.specs.Counter.{counter_asks, scanline_asks, line_after, advance_of, v_state_of, row_at, scanline_of};
+ghost use Rattle.counter.specs.Counter.{counter_asks, line_after, advance_of, v_state_of, row_at, scanline_of};
 
-use refusal::{Refusal, Verdict};
+use refusal::{Refusal, Refused};
 use timing::{DviTiming, DviTimingLineState};
 
 // The line that is sent now.
-#[derive(Clone, Copy)]
+#[derive(Clone, Copy, Debug, PartialEq, Eq, Hash)]
 pub struct DviTimingState {
     pub v_ctr: u32,
 }
 
-#[derive(Clone, Copy)]
-pub enum Advanced {
-    Next(DviTimingState),
-    Refused(Refusal, DviTimingState),
-}
-
-#[derive(Clone, Copy)]
-pub enum VState {
-    State(DviTimingLineState),
-    Refused(Refusal, DviTimingState),
-}
-
-#[derive(Clone, Copy)]
-pub enum Scanline {
-    // The row of pixels, from 0.
-    Row(u32),
-    // That line shows no pixels.
-    NoRow,
-    Refused(Refusal, DviTimingState),
-}
-
-// Whether the timing is fine, and the counter one of its lines.
-fn counted(t: DviTiming, line: u32) -> Verdict
-    ensures { result ≡ verdict (counter_asks t line) }
-{
-    let v = t.checked();
-    let Verdict::Fine = v else {
-        return v;
-    };
-    if (line as u64) < t.total_lines() {
-        Verdict::Fine
-    } else {
-        Verdict::Refused(Refusal::LineCounter)
-    }
-}
-
-fn reached(t: DviTiming, line: u32, offset: u32) -> Verdict
-    ensures { result ≡ verdict (scanline_asks t line offset) }
-{
-    let v = counted(t, line);
-    let Verdict::Fine = v else {
-        return v;
-    };
-    if (line as u64) + (offset as u64) <= 4294967295 {
-        Verdict::Fine
-    } else {
-        Verdict::Refused(Refusal::LineOffset)
-    }
-}
-
 // One on, and from the last line back to the first.
 fn line_after(t: DviTiming, line: u32) -> u32
-    requires { (line < total t) × (total t ≤ 16380) }
+    requires { verdict (counter_asks t line) ≡ Ok tt }
     ensures { result ≡ line_after t line }
 {
-    if (line as u64) + 1 == t.total_lines() {
+    if u64::from(line) + 1 == t.total_lines() {
         0
     } else {
         line + 1
     }
 }
 
+// Of any line, since a row is asked of the line `offset` on: so these take a line and no counter.
+#[tactic(auto, unfolding(timing::specs::LineState::state_at))]
 fn state_at(t: DviTiming, line: u32) -> DviTimingLineState
     ensures { result ≡ state_at t line }
 {
     if line < t.v_front_porch {
         return DviTimingLineState::FrontPorch;
     }
-    if (line as u64) < (t.v_front_porch as u64) + (t.v_sync_width as u64) {
+    if u64::from(line) < u64::from(t.v_front_porch) + u64::from(t.v_sync_width) {
         return DviTimingLineState::Sync;
     }
-    if (line as u64) < t.inactive_lines() {
+    if u64::from(line) < t.inactive_lines() {
         return DviTimingLineState::BackPorch;
     }
     DviTimingLineState::Active
 }
 
-fn row_at(t: DviTiming, line: u32) -> Scanline
+#[tactic(auto, unfolding(crate::specs::Counter::row_at))]
+fn row_at(t: DviTiming, line: u32) -> Option<u32>
     ensures { result ≡ row_at t line }
 {
-    let y = line as u64;
+    let y = u64::from(line);
     let inactive = t.inactive_lines();
     if (inactive <= y) & (y < t.total_lines()) {
-        Scanline::Row((y - inactive) as u32)
+        Some((y - inactive) as u32)
     } else {
-        Scanline::NoRow
+        None
     }
 }
 
@@ -119,39 +71,45 @@ impl DviTimingState {
         self.v_ctr
     }
 
-    pub fn advance(self, timing: DviTiming) -> Advanced
-        ensures { result ≡ advance_of timing self }
+    // Whether the timing is fine, and the counter one of its lines.
+    fn counted(self, t: DviTiming) -> Result<(), Refused<Self>>
+        ensures { result ≡ answered (verdict (counter_asks t self.v_ctr)) (Ok tt) (λ r. Err (handed_back self r)) }
     {
-        let line = self.v_ctr;
-        let v = counted(timing, line);
-        match v {
-            Verdict::Refused(r) => Advanced::Refused(r, self),
-            Verdict::Fine => Advanced::Next(DviTimingState {
-                v_ctr: line_after(timing, line),
-            }),
+        t.checked().map_err(|r| r.handing_back(self))?;
+        if u64::from(self.v_ctr) < t.total_lines() {
+            Ok(())
+        } else {
+            Err(Refusal::LineCounter.handing_back(self))
         }
     }
 
-    pub fn v_state(self, timing: DviTiming) -> VState
+    pub fn advance(self, timing: DviTiming) -> Result<Self, Refused<Self>>
+        ensures { result ≡ advance_of timing self }
+    {
+        self.counted(timing)?;
+        Ok(Self::new(line_after(timing, self.v_ctr)))
+    }
+
+    pub fn v_state(self, timing: DviTiming) -> Result<DviTimingLineState, Refused<Self>>
         ensures { result ≡ v_state_of timing self }
     {
-        let line = self.v_ctr;
-        let v = counted(timing, line);
-        match v {
-            Verdict::Refused(r) => VState::Refused(r, self),
-            Verdict::Fine => VState::State(state_at(timing, line)),
-        }
+        self.counted(timing)?;
+        Ok(state_at(timing, self.v_ctr))
     }
 
     // The row of pixels that the line `offset` lines on shows. It doesn't wrap into the next frame.
-    pub fn v_scanline_index(self, timing: DviTiming, offset: u32) -> Scanline
+    pub fn v_scanline_index(
+        self,
+        timing: DviTiming,
+        offset: u32,
+    ) -> Result<Option<u32>, Refused<Self>>
         ensures { result ≡ scanline_of timing self offset }
     {
-        let line = self.v_ctr;
-        let v = reached(timing, line, offset);
-        match v {
-            Verdict::Refused(r) => Scanline::Refused(r, self),
-            Verdict::Fine => row_at(timing, line + offset),
-        }
+        self.counted(timing)?;
+        let line = self
+            .v_ctr
+            .checked_add(offset)
+            .ok_or(Refusal::LineOffset.handing_back(self))?;
+        Ok(row_at(timing, line))
     }
 }

@@ -1,44 +1,30 @@
 -- Each field's numbers are listed and lead back to it, so its decision has one answer.
 use mathlib.Core.Path.{◌≡◌, refl}
-use mathlib.Core.Logic.{◌⊎◌, inl, inr}
 use mathlib.Core.Bool.{true, cond}
 use Prim.Native.Nat.{ℕ}
 use lib.Dec.{eqb}
+use Rattle.std.specs.Prelude.{Result}
 use Rattle.refusal.specs.declared.Refusal.{Refusal}
 use Rattle.fields.specs.declared.ScanInfo.{ScanInfo}
 use Rattle.fields.specs.declared.ScanInfo.TheVariants as ScanInfoV
-use Rattle.fields.specs.declared.ScanInfoChoice.{ScanInfoChoice}
-use Rattle.fields.specs.declared.ScanInfoChoice.TheVariants as ScanInfoChoiceV
 use Rattle.fields.specs.ScanInfo.{scan_number, scan_numbers, scan_decided}
 use Rattle.fields.specs.declared.PixelFormat.{PixelFormat}
 use Rattle.fields.specs.declared.PixelFormat.TheVariants as PixelFormatV
-use Rattle.fields.specs.declared.PixelFormatChoice.{PixelFormatChoice}
-use Rattle.fields.specs.declared.PixelFormatChoice.TheVariants as PixelFormatChoiceV
 use Rattle.fields.specs.PixelFormat.{pixel_number, pixel_numbers, pixel_decided}
 use Rattle.fields.specs.declared.Colorimetry.{Colorimetry}
 use Rattle.fields.specs.declared.Colorimetry.TheVariants as ColorimetryV
-use Rattle.fields.specs.declared.ColorimetryChoice.{ColorimetryChoice}
-use Rattle.fields.specs.declared.ColorimetryChoice.TheVariants as ColorimetryChoiceV
 use Rattle.fields.specs.Colorimetry.{color_number, color_numbers, color_decided}
 use Rattle.fields.specs.declared.PictureAspectRatio.{PictureAspectRatio}
 use Rattle.fields.specs.declared.PictureAspectRatio.TheVariants as PictureAspectRatioV
-use Rattle.fields.specs.declared.PictureAspectRatioChoice.{PictureAspectRatioChoice}
-use Rattle.fields.specs.declared.PictureAspectRatioChoice.TheVariants as PictureAspectRatioChoiceV
 use Rattle.fields.specs.PictureAspectRatio.{picture_number, picture_numbers, picture_decided}
 use Rattle.fields.specs.declared.ActiveFormatAspectRatio.{ActiveFormatAspectRatio}
 use Rattle.fields.specs.declared.ActiveFormatAspectRatio.TheVariants as ActiveFormatAspectRatioV
-use Rattle.fields.specs.declared.ActiveFormatAspectRatioChoice.{ActiveFormatAspectRatioChoice}
-use Rattle.fields.specs.declared.ActiveFormatAspectRatioChoice.TheVariants as ActiveFormatAspectRatioChoiceV
 use Rattle.fields.specs.ActiveFormatAspectRatio.{active_number, active_numbers, active_decided}
 use Rattle.fields.specs.declared.QuantizationRange.{QuantizationRange}
 use Rattle.fields.specs.declared.QuantizationRange.TheVariants as QuantizationRangeV
-use Rattle.fields.specs.declared.QuantizationRangeChoice.{QuantizationRangeChoice}
-use Rattle.fields.specs.declared.QuantizationRangeChoice.TheVariants as QuantizationRangeChoiceV
 use Rattle.fields.specs.QuantizationRange.{quantization_number, quantization_numbers, quantization_decided}
 use Rattle.fields.specs.declared.VideoCode.{VideoCode}
 use Rattle.fields.specs.declared.VideoCode.TheVariants as VideoCodeV
-use Rattle.fields.specs.declared.VideoCodeChoice.{VideoCodeChoice}
-use Rattle.fields.specs.declared.VideoCodeChoice.TheVariants as VideoCodeChoiceV
 use Rattle.fields.specs.VideoCode.{code_number, code_numbers, code_decided}
 use Rattle.fields.specs.Numbers.{one_of}
 use Rattle.fields.proofs.Deciding.{one_of_lem, one_answer}
@@ -51,15 +37,11 @@ scan_known ScanInfoV.NoData = (refl, refl)
 scan_known ScanInfoV.Overscan = (refl, refl)
 scan_known ScanInfoV.Underscan = (refl, refl)
 
-scan_either : (c : ScanInfoChoice) → ((x : ScanInfo) × (c ≡ ScanInfoChoiceV.Listed x)) ⊎ ((r : Refusal) × (c ≡ ScanInfoChoiceV.Refused r))
-scan_either (ScanInfoChoiceV.Listed x) = inl (x, refl)
-scan_either (ScanInfoChoiceV.Refused r) = inr (r, refl)
-
 pub scan_in : (n : ℕ) (x : ScanInfo) → scan_number x ≡ n → one_of n scan_numbers ≡ true
 scan_in = one_of_lem scan_number scan_numbers scan_back scan_known
 
-pub scan_once : (n : ℕ) (c d : ScanInfoChoice) → scan_decided n c → scan_decided n d → c ≡ d
-scan_once = one_answer scan_number scan_numbers scan_back scan_known scan_decided ScanInfoChoiceV.Listed ScanInfoChoiceV.Refused scan_either (λ n x d. d) (λ n r d. d)
+pub scan_once : (n : ℕ) (c d : Result ScanInfo Refusal) → scan_decided n c → scan_decided n d → c ≡ d
+scan_once = one_answer scan_number scan_numbers scan_back scan_known
 
 abbrev pixel_back : ℕ → PixelFormat
 pixel_back n = cond (eqb n 0) PixelFormatV.Rgb (cond (eqb n 1) PixelFormatV.Ycbcr422 PixelFormatV.Ycbcr444)
@@ -69,15 +51,11 @@ pixel_known PixelFormatV.Rgb = (refl, refl)
 pixel_known PixelFormatV.Ycbcr422 = (refl, refl)
 pixel_known PixelFormatV.Ycbcr444 = (refl, refl)
 
-pixel_either : (c : PixelFormatChoice) → ((x : PixelFormat) × (c ≡ PixelFormatChoiceV.Listed x)) ⊎ ((r : Refusal) × (c ≡ PixelFormatChoiceV.Refused r))
-pixel_either (PixelFormatChoiceV.Listed x) = inl (x, refl)
-pixel_either (PixelFormatChoiceV.Refused r) = inr (r, refl)
-
 pub pixel_in : (n : ℕ) (x : PixelFormat) → pixel_number x ≡ n → one_of n pixel_numbers ≡ true
 pixel_in = one_of_lem pixel_number pixel_numbers pixel_back pixel_known
 
-pub pixel_once : (n : ℕ) (c d : PixelFormatChoice) → pixel_decided n c → pixel_decided n d → c ≡ d
-pixel_once = one_answer pixel_number pixel_numbers pixel_back pixel_known pixel_decided PixelFormatChoiceV.Listed PixelFormatChoiceV.Refused pixel_either (λ n x d. d) (λ n r d. d)
+pub pixel_once : (n : ℕ) (c d : Result PixelFormat Refusal) → pixel_decided n c → pixel_decided n d → c ≡ d
+pixel_once = one_answer pixel_number pixel_numbers pixel_back pixel_known
 
 abbrev color_back : ℕ → Colorimetry
 color_back n = cond (eqb n 0) ColorimetryV.NoData (cond (eqb n 1) ColorimetryV.Itu601 (cond (eqb n 2) ColorimetryV.Itu709 ColorimetryV.Extended))
@@ -88,15 +66,11 @@ color_known ColorimetryV.Itu601 = (refl, refl)
 color_known ColorimetryV.Itu709 = (refl, refl)
 color_known ColorimetryV.Extended = (refl, refl)
 
-color_either : (c : ColorimetryChoice) → ((x : Colorimetry) × (c ≡ ColorimetryChoiceV.Listed x)) ⊎ ((r : Refusal) × (c ≡ ColorimetryChoiceV.Refused r))
-color_either (ColorimetryChoiceV.Listed x) = inl (x, refl)
-color_either (ColorimetryChoiceV.Refused r) = inr (r, refl)
-
 pub color_in : (n : ℕ) (x : Colorimetry) → color_number x ≡ n → one_of n color_numbers ≡ true
 color_in = one_of_lem color_number color_numbers color_back color_known
 
-pub color_once : (n : ℕ) (c d : ColorimetryChoice) → color_decided n c → color_decided n d → c ≡ d
-color_once = one_answer color_number color_numbers color_back color_known color_decided ColorimetryChoiceV.Listed ColorimetryChoiceV.Refused color_either (λ n x d. d) (λ n r d. d)
+pub color_once : (n : ℕ) (c d : Result Colorimetry Refusal) → color_decided n c → color_decided n d → c ≡ d
+color_once = one_answer color_number color_numbers color_back color_known
 
 abbrev picture_back : ℕ → PictureAspectRatio
 picture_back n = cond (eqb n 0) PictureAspectRatioV.NoData (cond (eqb n 1) PictureAspectRatioV.Ratio4_3 PictureAspectRatioV.Ratio16_9)
@@ -106,15 +80,11 @@ picture_known PictureAspectRatioV.NoData = (refl, refl)
 picture_known PictureAspectRatioV.Ratio4_3 = (refl, refl)
 picture_known PictureAspectRatioV.Ratio16_9 = (refl, refl)
 
-picture_either : (c : PictureAspectRatioChoice) → ((x : PictureAspectRatio) × (c ≡ PictureAspectRatioChoiceV.Listed x)) ⊎ ((r : Refusal) × (c ≡ PictureAspectRatioChoiceV.Refused r))
-picture_either (PictureAspectRatioChoiceV.Listed x) = inl (x, refl)
-picture_either (PictureAspectRatioChoiceV.Refused r) = inr (r, refl)
-
 pub picture_in : (n : ℕ) (x : PictureAspectRatio) → picture_number x ≡ n → one_of n picture_numbers ≡ true
 picture_in = one_of_lem picture_number picture_numbers picture_back picture_known
 
-pub picture_once : (n : ℕ) (c d : PictureAspectRatioChoice) → picture_decided n c → picture_decided n d → c ≡ d
-picture_once = one_answer picture_number picture_numbers picture_back picture_known picture_decided PictureAspectRatioChoiceV.Listed PictureAspectRatioChoiceV.Refused picture_either (λ n x d. d) (λ n r d. d)
+pub picture_once : (n : ℕ) (c d : Result PictureAspectRatio Refusal) → picture_decided n c → picture_decided n d → c ≡ d
+picture_once = one_answer picture_number picture_numbers picture_back picture_known
 
 abbrev active_back : ℕ → ActiveFormatAspectRatio
 active_back n = cond (eqb n 0) ActiveFormatAspectRatioV.NoData (cond (eqb n 8) ActiveFormatAspectRatioV.SameAsPar (cond (eqb n 9) ActiveFormatAspectRatioV.Ratio4_3 (cond (eqb n 10) ActiveFormatAspectRatioV.Ratio16_9 ActiveFormatAspectRatioV.Ratio14_9)))
@@ -126,15 +96,11 @@ active_known ActiveFormatAspectRatioV.Ratio4_3 = (refl, refl)
 active_known ActiveFormatAspectRatioV.Ratio16_9 = (refl, refl)
 active_known ActiveFormatAspectRatioV.Ratio14_9 = (refl, refl)
 
-active_either : (c : ActiveFormatAspectRatioChoice) → ((x : ActiveFormatAspectRatio) × (c ≡ ActiveFormatAspectRatioChoiceV.Listed x)) ⊎ ((r : Refusal) × (c ≡ ActiveFormatAspectRatioChoiceV.Refused r))
-active_either (ActiveFormatAspectRatioChoiceV.Listed x) = inl (x, refl)
-active_either (ActiveFormatAspectRatioChoiceV.Refused r) = inr (r, refl)
-
 pub active_in : (n : ℕ) (x : ActiveFormatAspectRatio) → active_number x ≡ n → one_of n active_numbers ≡ true
 active_in = one_of_lem active_number active_numbers active_back active_known
 
-pub active_once : (n : ℕ) (c d : ActiveFormatAspectRatioChoice) → active_decided n c → active_decided n d → c ≡ d
-active_once = one_answer active_number active_numbers active_back active_known active_decided ActiveFormatAspectRatioChoiceV.Listed ActiveFormatAspectRatioChoiceV.Refused active_either (λ n x d. d) (λ n r d. d)
+pub active_once : (n : ℕ) (c d : Result ActiveFormatAspectRatio Refusal) → active_decided n c → active_decided n d → c ≡ d
+active_once = one_answer active_number active_numbers active_back active_known
 
 abbrev quantization_back : ℕ → QuantizationRange
 quantization_back n = cond (eqb n 0) QuantizationRangeV.Default (cond (eqb n 1) QuantizationRangeV.Limited QuantizationRangeV.Full)
@@ -144,15 +110,11 @@ quantization_known QuantizationRangeV.Default = (refl, refl)
 quantization_known QuantizationRangeV.Limited = (refl, refl)
 quantization_known QuantizationRangeV.Full = (refl, refl)
 
-quantization_either : (c : QuantizationRangeChoice) → ((x : QuantizationRange) × (c ≡ QuantizationRangeChoiceV.Listed x)) ⊎ ((r : Refusal) × (c ≡ QuantizationRangeChoiceV.Refused r))
-quantization_either (QuantizationRangeChoiceV.Listed x) = inl (x, refl)
-quantization_either (QuantizationRangeChoiceV.Refused r) = inr (r, refl)
-
 pub quantization_in : (n : ℕ) (x : QuantizationRange) → quantization_number x ≡ n → one_of n quantization_numbers ≡ true
 quantization_in = one_of_lem quantization_number quantization_numbers quantization_back quantization_known
 
-pub quantization_once : (n : ℕ) (c d : QuantizationRangeChoice) → quantization_decided n c → quantization_decided n d → c ≡ d
-quantization_once = one_answer quantization_number quantization_numbers quantization_back quantization_known quantization_decided QuantizationRangeChoiceV.Listed QuantizationRangeChoiceV.Refused quantization_either (λ n x d. d) (λ n r d. d)
+pub quantization_once : (n : ℕ) (c d : Result QuantizationRange Refusal) → quantization_decided n c → quantization_decided n d → c ≡ d
+quantization_once = one_answer quantization_number quantization_numbers quantization_back quantization_known
 
 abbrev code_back : ℕ → VideoCode
 code_back n = cond (eqb n 1) VideoCodeV.Code640x480P60 VideoCodeV.Code720x480P60
@@ -161,12 +123,8 @@ code_known : (x : VideoCode) → (one_of (code_number x) code_numbers ≡ true) 
 code_known VideoCodeV.Code640x480P60 = (refl, refl)
 code_known VideoCodeV.Code720x480P60 = (refl, refl)
 
-code_either : (c : VideoCodeChoice) → ((x : VideoCode) × (c ≡ VideoCodeChoiceV.Listed x)) ⊎ ((r : Refusal) × (c ≡ VideoCodeChoiceV.Refused r))
-code_either (VideoCodeChoiceV.Listed x) = inl (x, refl)
-code_either (VideoCodeChoiceV.Refused r) = inr (r, refl)
-
 pub code_in : (n : ℕ) (x : VideoCode) → code_number x ≡ n → one_of n code_numbers ≡ true
 code_in = one_of_lem code_number code_numbers code_back code_known
 
-pub code_once : (n : ℕ) (c d : VideoCodeChoice) → code_decided n c → code_decided n d → c ≡ d
-code_once = one_answer code_number code_numbers code_back code_known code_decided VideoCodeChoiceV.Listed VideoCodeChoiceV.Refused code_either (λ n x d. d) (λ n r d. d)
+pub code_once : (n : ℕ) (c d : Result VideoCode Refusal) → code_decided n c → code_decided n d → c ≡ d
+code_once = one_answer code_number code_numbers code_back code_known

@@ -1,11 +1,9 @@
 -- M: the aspect ratio of the whole picture: the numbers, and what a decision on a number answers.
-use Rattle.std.specs.Prelude.{◌≡◌, List, [], ◌∷◌, ℕ}
-use Rattle.refusal.specs.declared.Refusal.TheVariants.{Unlisted}
+use Rattle.refusal.specs.declared.Refusal.{Refusal}
+use Rattle.std.specs.Prelude.{List, [], ◌∷◌, ℕ, Result}
 use Rattle.fields.specs.declared.PictureAspectRatio.{PictureAspectRatio}
 use Rattle.fields.specs.declared.PictureAspectRatio.TheVariants.{NoData, Ratio4_3, Ratio16_9}
-use Rattle.fields.specs.declared.PictureAspectRatioChoice.{PictureAspectRatioChoice}
-use Rattle.fields.specs.declared.PictureAspectRatioChoice.TheVariants.{Listed, Refused}
-use Rattle.fields.specs.Numbers.{NoneOf}
+use Rattle.fields.specs.Numbers.{decided}
 
 abbrev pub picture_number : PictureAspectRatio → ℕ
 picture_number NoData = 0
@@ -15,6 +13,5 @@ picture_number Ratio16_9 = 2
 abbrev pub picture_numbers : List ℕ
 picture_numbers = 0 ∷ 1 ∷ 2 ∷ []
 
-abbrev pub picture_decided : ℕ → PictureAspectRatioChoice → Type 0
-picture_decided n (Listed x) = picture_number x ≡ n
-picture_decided n (Refused r) = (r ≡ Unlisted) × NoneOf n picture_numbers
+abbrev pub picture_decided : ℕ → Result PictureAspectRatio Refusal → Type 0
+picture_decided = decided picture_number picture_numbers

@@ -1,11 +1,9 @@
 -- Y: how a pixel is coded: the numbers, and what a decision on a number answers.
-use Rattle.std.specs.Prelude.{◌≡◌, List, [], ◌∷◌, ℕ}
-use Rattle.refusal.specs.declared.Refusal.TheVariants.{Unlisted}
+use Rattle.refusal.specs.declared.Refusal.{Refusal}
+use Rattle.std.specs.Prelude.{List, [], ◌∷◌, ℕ, Result}
 use Rattle.fields.specs.declared.PixelFormat.{PixelFormat}
 use Rattle.fields.specs.declared.PixelFormat.TheVariants.{Rgb, Ycbcr422, Ycbcr444}
-use Rattle.fields.specs.declared.PixelFormatChoice.{PixelFormatChoice}
-use Rattle.fields.specs.declared.PixelFormatChoice.TheVariants.{Listed, Refused}
-use Rattle.fields.specs.Numbers.{NoneOf}
+use Rattle.fields.specs.Numbers.{decided}
 
 abbrev pub pixel_number : PixelFormat → ℕ
 pixel_number Rgb = 0
@@ -15,6 +13,5 @@ pixel_number Ycbcr444 = 2
 abbrev pub pixel_numbers : List ℕ
 pixel_numbers = 0 ∷ 1 ∷ 2 ∷ []
 
-abbrev pub pixel_decided : ℕ → PixelFormatChoice → Type 0
-pixel_decided n (Listed x) = pixel_number x ≡ n
-pixel_decided n (Refused r) = (r ≡ Unlisted) × NoneOf n pixel_numbers
+abbrev pub pixel_decided : ℕ → Result PixelFormat Refusal → Type 0
+pixel_decided = decided pixel_number pixel_numbers

@@ -13,287 +13,233 @@ ghost use Rattle.fields.specs.VideoCode.{code_number, code_decided};
 
 use refusal::Refusal;
 
-// S: how the picture is scanned.
-#[derive(Clone, Copy)]
-pub enum ScanInfo {
-    NoData,
-    Overscan,
-    Underscan,
-}
+// Each variant is its number, and a number that is none of them is refused with 4. Each enum decides by a `match` of its own: one decision for all, in
+// a trait, would list the variants a second time too, in a constant to be searched, and `as u8` isn't to be had of a type parameter.
 
-#[derive(Clone, Copy)]
-pub enum ScanInfoChoice {
-    Listed(ScanInfo),
-    Refused(Refusal),
+// S: how the picture is scanned.
+#[derive(Clone, Copy, Debug, PartialEq, Eq, Hash)]
+pub enum ScanInfo {
+    NoData = 0,
+    Overscan = 1,
+    Underscan = 2,
 }
 
 impl ScanInfo {
     pub fn number(self) -> u8
         ensures { (result ≡ scan_number self) × (result ≤ 2) }
     {
-        match self {
-            ScanInfo::NoData => 0,
-            ScanInfo::Overscan => 1,
-            ScanInfo::Underscan => 2,
-        }
+        self as u8
     }
+}
 
-    // Refused with 4 where n isn't one of the numbers.
-    pub fn listed(n: u32) -> ScanInfoChoice
-        ensures { scan_decided n result }
-    {
+impl TryFrom<u32> for ScanInfo {
+    type Error = Refusal;
+
+    ghost try_from_gives = { scan_decided };
+
+    fn try_from(n: u32) -> Result<Self, Refusal> {
         match n {
-            0 => ScanInfoChoice::Listed(ScanInfo::NoData),
-            1 => ScanInfoChoice::Listed(ScanInfo::Overscan),
-            2 => ScanInfoChoice::Listed(ScanInfo::Underscan),
-            _ => ScanInfoChoice::Refused(Refusal::Unlisted),
+            0 => Ok(ScanInfo::NoData),
+            1 => Ok(ScanInfo::Overscan),
+            2 => Ok(ScanInfo::Underscan),
+            _ => Err(Refusal::Unlisted),
         }
     }
 }
 
 // Y: how a pixel is coded.
-#[derive(Clone, Copy)]
+#[derive(Clone, Copy, Debug, PartialEq, Eq, Hash)]
 pub enum PixelFormat {
-    Rgb,
-    Ycbcr422,
-    Ycbcr444,
-}
-
-#[derive(Clone, Copy)]
-pub enum PixelFormatChoice {
-    Listed(PixelFormat),
-    Refused(Refusal),
+    Rgb = 0,
+    Ycbcr422 = 1,
+    Ycbcr444 = 2,
 }
 
 impl PixelFormat {
     pub fn number(self) -> u8
         ensures { (result ≡ pixel_number self) × (result ≤ 2) }
     {
-        match self {
-            PixelFormat::Rgb => 0,
-            PixelFormat::Ycbcr422 => 1,
-            PixelFormat::Ycbcr444 => 2,
-        }
+        self as u8
     }
+}
 
-    // Refused with 4 where n isn't one of the numbers.
-    pub fn listed(n: u32) -> PixelFormatChoice
-        ensures { pixel_decided n result }
-    {
+impl TryFrom<u32> for PixelFormat {
+    type Error = Refusal;
+
+    ghost try_from_gives = { pixel_decided };
+
+    fn try_from(n: u32) -> Result<Self, Refusal> {
         match n {
-            0 => PixelFormatChoice::Listed(PixelFormat::Rgb),
-            1 => PixelFormatChoice::Listed(PixelFormat::Ycbcr422),
-            2 => PixelFormatChoice::Listed(PixelFormat::Ycbcr444),
-            _ => PixelFormatChoice::Refused(Refusal::Unlisted),
+            0 => Ok(PixelFormat::Rgb),
+            1 => Ok(PixelFormat::Ycbcr422),
+            2 => Ok(PixelFormat::Ycbcr444),
+            _ => Err(Refusal::Unlisted),
         }
     }
 }
 
 // C: the colour space.
-#[derive(Clone, Copy)]
+#[derive(Clone, Copy, Debug, PartialEq, Eq, Hash)]
 pub enum Colorimetry {
-    NoData,
-    Itu601,
-    Itu709,
-    Extended,
-}
-
-#[derive(Clone, Copy)]
-pub enum ColorimetryChoice {
-    Listed(Colorimetry),
-    Refused(Refusal),
+    NoData = 0,
+    Itu601 = 1,
+    Itu709 = 2,
+    Extended = 3,
 }
 
 impl Colorimetry {
     pub fn number(self) -> u8
         ensures { (result ≡ color_number self) × (result ≤ 3) }
     {
-        match self {
-            Colorimetry::NoData => 0,
-            Colorimetry::Itu601 => 1,
-            Colorimetry::Itu709 => 2,
-            Colorimetry::Extended => 3,
-        }
+        self as u8
     }
+}
 
-    // Refused with 4 where n isn't one of the numbers.
-    pub fn listed(n: u32) -> ColorimetryChoice
-        ensures { color_decided n result }
-    {
+impl TryFrom<u32> for Colorimetry {
+    type Error = Refusal;
+
+    ghost try_from_gives = { color_decided };
+
+    fn try_from(n: u32) -> Result<Self, Refusal> {
         match n {
-            0 => ColorimetryChoice::Listed(Colorimetry::NoData),
-            1 => ColorimetryChoice::Listed(Colorimetry::Itu601),
-            2 => ColorimetryChoice::Listed(Colorimetry::Itu709),
-            3 => ColorimetryChoice::Listed(Colorimetry::Extended),
-            _ => ColorimetryChoice::Refused(Refusal::Unlisted),
+            0 => Ok(Colorimetry::NoData),
+            1 => Ok(Colorimetry::Itu601),
+            2 => Ok(Colorimetry::Itu709),
+            3 => Ok(Colorimetry::Extended),
+            _ => Err(Refusal::Unlisted),
         }
     }
 }
 
 // M: the aspect ratio of the whole picture.
-#[derive(Clone, Copy)]
+#[derive(Clone, Copy, Debug, PartialEq, Eq, Hash)]
 pub enum PictureAspectRatio {
-    NoData,
-    Ratio4_3,
-    Ratio16_9,
-}
-
-#[derive(Clone, Copy)]
-pub enum PictureAspectRatioChoice {
-    Listed(PictureAspectRatio),
-    Refused(Refusal),
+    NoData = 0,
+    Ratio4_3 = 1,
+    Ratio16_9 = 2,
 }
 
 impl PictureAspectRatio {
     pub fn number(self) -> u8
         ensures { (result ≡ picture_number self) × (result ≤ 2) }
     {
-        match self {
-            PictureAspectRatio::NoData => 0,
-            PictureAspectRatio::Ratio4_3 => 1,
-            PictureAspectRatio::Ratio16_9 => 2,
-        }
+        self as u8
     }
+}
 
-    // Refused with 4 where n isn't one of the numbers.
-    pub fn listed(n: u32) -> PictureAspectRatioChoice
-        ensures { picture_decided n result }
-    {
+impl TryFrom<u32> for PictureAspectRatio {
+    type Error = Refusal;
+
+    ghost try_from_gives = { picture_decided };
+
+    fn try_from(n: u32) -> Result<Self, Refusal> {
         match n {
-            0 => PictureAspectRatioChoice::Listed(PictureAspectRatio::NoData),
-            1 => PictureAspectRatioChoice::Listed(PictureAspectRatio::Ratio4_3),
-            2 => PictureAspectRatioChoice::Listed(PictureAspectRatio::Ratio16_9),
-            _ => PictureAspectRatioChoice::Refused(Refusal::Unlisted),
+            0 => Ok(PictureAspectRatio::NoData),
+            1 => Ok(PictureAspectRatio::Ratio4_3),
+            2 => Ok(PictureAspectRatio::Ratio16_9),
+            _ => Err(Refusal::Unlisted),
         }
     }
 }
 
 // R: the aspect ratio of the part that shows something. `NoData` is 0: the 255 of data_island.rs would run over M and C.
-#[derive(Clone, Copy)]
+#[derive(Clone, Copy, Debug, PartialEq, Eq, Hash)]
 pub enum ActiveFormatAspectRatio {
-    NoData,
-    SameAsPar,
-    Ratio4_3,
-    Ratio16_9,
-    Ratio14_9,
-}
-
-#[derive(Clone, Copy)]
-pub enum ActiveFormatAspectRatioChoice {
-    Listed(ActiveFormatAspectRatio),
-    Refused(Refusal),
+    NoData = 0,
+    SameAsPar = 8,
+    Ratio4_3 = 9,
+    Ratio16_9 = 10,
+    Ratio14_9 = 11,
 }
 
 impl ActiveFormatAspectRatio {
     pub fn number(self) -> u8
         ensures { (result ≡ active_number self) × (result ≤ 11) }
     {
-        match self {
-            ActiveFormatAspectRatio::NoData => 0,
-            ActiveFormatAspectRatio::SameAsPar => 8,
-            ActiveFormatAspectRatio::Ratio4_3 => 9,
-            ActiveFormatAspectRatio::Ratio16_9 => 10,
-            ActiveFormatAspectRatio::Ratio14_9 => 11,
-        }
+        self as u8
     }
 
-    // A: 1 where there is something to say.
+    // A: 1 where there is something to say. A bit of the frame, so a number.
     pub fn present(self) -> u8
         ensures { (result ≡ active_present (active_number self)) × (result ≤ 1) }
     {
-        match self {
-            ActiveFormatAspectRatio::NoData => 0,
-            ActiveFormatAspectRatio::SameAsPar => 1,
-            ActiveFormatAspectRatio::Ratio4_3 => 1,
-            ActiveFormatAspectRatio::Ratio16_9 => 1,
-            ActiveFormatAspectRatio::Ratio14_9 => 1,
-        }
+        u8::from(self != ActiveFormatAspectRatio::NoData)
     }
+}
 
-    // Refused with 4 where n isn't one of the numbers.
-    pub fn listed(n: u32) -> ActiveFormatAspectRatioChoice
-        ensures { active_decided n result }
-    {
+impl TryFrom<u32> for ActiveFormatAspectRatio {
+    type Error = Refusal;
+
+    ghost try_from_gives = { active_decided };
+
+    fn try_from(n: u32) -> Result<Self, Refusal> {
         match n {
-            0 => ActiveFormatAspectRatioChoice::Listed(ActiveFormatAspectRatio::NoData),
-            8 => ActiveFormatAspectRatioChoice::Listed(ActiveFormatAspectRatio::SameAsPar),
-            9 => ActiveFormatAspectRatioChoice::Listed(ActiveFormatAspectRatio::Ratio4_3),
-            10 => ActiveFormatAspectRatioChoice::Listed(ActiveFormatAspectRatio::Ratio16_9),
-            11 => ActiveFormatAspectRatioChoice::Listed(ActiveFormatAspectRatio::Ratio14_9),
-            _ => ActiveFormatAspectRatioChoice::Refused(Refusal::Unlisted),
+            0 => Ok(ActiveFormatAspectRatio::NoData),
+            8 => Ok(ActiveFormatAspectRatio::SameAsPar),
+            9 => Ok(ActiveFormatAspectRatio::Ratio4_3),
+            10 => Ok(ActiveFormatAspectRatio::Ratio16_9),
+            11 => Ok(ActiveFormatAspectRatio::Ratio14_9),
+            _ => Err(Refusal::Unlisted),
         }
     }
 }
 
 // Q: the range of the levels.
-#[derive(Clone, Copy)]
+#[derive(Clone, Copy, Debug, PartialEq, Eq, Hash)]
 pub enum QuantizationRange {
-    Default,
-    Limited,
-    Full,
-}
-
-#[derive(Clone, Copy)]
-pub enum QuantizationRangeChoice {
-    Listed(QuantizationRange),
-    Refused(Refusal),
+    Default = 0,
+    Limited = 1,
+    Full = 2,
 }
 
 impl QuantizationRange {
     pub fn number(self) -> u8
         ensures { (result ≡ quantization_number self) × (result ≤ 2) }
     {
-        match self {
-            QuantizationRange::Default => 0,
-            QuantizationRange::Limited => 1,
-            QuantizationRange::Full => 2,
-        }
+        self as u8
     }
+}
 
-    // Refused with 4 where n isn't one of the numbers.
-    pub fn listed(n: u32) -> QuantizationRangeChoice
-        ensures { quantization_decided n result }
-    {
+impl TryFrom<u32> for QuantizationRange {
+    type Error = Refusal;
+
+    ghost try_from_gives = { quantization_decided };
+
+    fn try_from(n: u32) -> Result<Self, Refusal> {
         match n {
-            0 => QuantizationRangeChoice::Listed(QuantizationRange::Default),
-            1 => QuantizationRangeChoice::Listed(QuantizationRange::Limited),
-            2 => QuantizationRangeChoice::Listed(QuantizationRange::Full),
-            _ => QuantizationRangeChoice::Refused(Refusal::Unlisted),
+            0 => Ok(QuantizationRange::Default),
+            1 => Ok(QuantizationRange::Limited),
+            2 => Ok(QuantizationRange::Full),
+            _ => Err(Refusal::Unlisted),
         }
     }
 }
 
 // The video code: size and rate.
-#[derive(Clone, Copy)]
+#[derive(Clone, Copy, Debug, PartialEq, Eq, Hash)]
 pub enum VideoCode {
-    Code640x480P60,
-    Code720x480P60,
-}
-
-#[derive(Clone, Copy)]
-pub enum VideoCodeChoice {
-    Listed(VideoCode),
-    Refused(Refusal),
+    Code640x480P60 = 1,
+    Code720x480P60 = 2,
 }
 
 impl VideoCode {
     pub fn number(self) -> u8
         ensures { (result ≡ code_number self) × (result ≤ 2) }
     {
-        match self {
-            VideoCode::Code640x480P60 => 1,
-            VideoCode::Code720x480P60 => 2,
-        }
+        self as u8
     }
+}
 
-    // Refused with 4 where n isn't one of the numbers.
-    pub fn listed(n: u32) -> VideoCodeChoice
-        ensures { code_decided n result }
-    {
+impl TryFrom<u32> for VideoCode {
+    type Error = Refusal;
+
+    ghost try_from_gives = { code_decided };
+
+    fn try_from(n: u32) -> Result<Self, Refusal> {
         match n {
-            1 => VideoCodeChoice::Listed(VideoCode::Code640x480P60),
-            2 => VideoCodeChoice::Listed(VideoCode::Code720x480P60),
-            _ => VideoCodeChoice::Refused(Refusal::Unlisted),
+            1 => Ok(VideoCode::Code640x480P60),
+            2 => Ok(VideoCode::Code720x480P60),
+            _ => Err(Refusal::Unlisted),
         }
     }
 }

@@ -3,14 +3,13 @@ use mathlib.Core.Path.{◌≡◌, refl}
 use mathlib.Core.List.{List, [], ◌∷◌}
 use Prim.Native.Nat.{ℕ}
 use lib.IntN.{ℤ, pos, negsuc}
+use Rattle.std.specs.Prelude.{Ok, Err}
 use Rattle.dvi.specs.Symbol.{symbol_of, next_of}
 use Rattle.dvi.specs.Decoder.{byte_of, is_data}
 use Rattle.dvi.proofs.Decoding.{not_data}
 use Rattle.hdmi.specs.Parity.{parity}
 use Rattle.hdmi.proofs.Figures.{header_1_0_0}
 use Rattle.refusal.specs.declared.Refusal.TheVariants.{NotData}
-use Rattle.symbol.specs.declared.Encoded.TheVariants.{Symbol}
-use Rattle.symbol.specs.declared.SymbolRead.TheVariants.{Refused}
 use Rattle.symbol.specs.Encode.{encode_of}
 use Rattle.symbol.specs.Read.{Reads}
 
@@ -21,8 +20,8 @@ pub data Figure : Type 0 where
   protects : List ℕ → ℕ → Figure
 
 abbrev pub Holds : Figure → Type 0
-Holds (sends d b s e) = encode_of d b ≡ Symbol (record { 0 = s }) e
-Holds (refuses s) = Reads s (Refused (NotData 0))
+Holds (sends d b s e) = encode_of d b ≡ Ok (record { sent = (record { 0 = s }); discrepancy = e })
+Holds (refuses s) = Reads s (Err (NotData 0))
 Holds (protects block p) = parity block ≡ p
 
 abbrev pub AllHold : List Figure → Type 0

@@ -5,10 +5,10 @@ use Prim.Native.Nat.{ℕ, ◌^◌, ◌<◌}
 use borrow.Author.Tests.{eq-eqb, lt-ltb}
 use lib.Dec.{T}
 use lib.ListN.{length, get_or}
+use Rattle.std.specs.Prelude.{Ok}
 use Rattle.laws.specs.Bit.{bit}
 use Rattle.laws.proofs.Bits.{bit_ext}
 use Rattle.laws.proofs.Finite.{agreed, bounded}
-use Rattle.refusal.specs.declared.Verdict.TheVariants.{Fine}
 use Rattle.refusal.specs.Verdict.{verdict, kept, rising}
 use Rattle.hdmi.specs.Island.{island}
 use Rattle.hdmi.proofs.Once.{pair_once, packet_once}
@@ -19,7 +19,7 @@ pub encode_in_order : (hv : ℕ) (p w : List ℕ) → T (rising (encode_asks hv 
 encode_in_order hv p w = tt
 
 -- a packet and a sync pair in range are encoded
-pub encode_fine : (hv : ℕ) (p w : List ℕ) → length p ≡ 36 → length w ≡ 36 → hv < 4 → verdict (encode_asks hv p w) ≡ Fine
+pub encode_fine : (hv : ℕ) (p w : List ℕ) → length p ≡ 36 → length w ≡ 36 → hv < 4 → verdict (encode_asks hv p w) ≡ Ok tt
 encode_fine hv p w hp hw h = simp (eq-eqb (length p) 36 hp, eq-eqb (length w) 36 hw, lt-ltb hv 4 h)
 
 -- what `encode` leaves in the words it was lent

@@ -1,7 +1,7 @@
 -- Four words side by side: the statement fixes the word, and the step undoes itself.
 use mathlib.Core.Path.{◌≡◌, sym, ap, ◌∙◌}
-use mathlib.Core.List.{List}
-use Prim.Native.Nat.{ℕ, ◌+◌, ◌*◌, ◌/◌, ◌%◌, ◌^◌, ◌<◌}
+use mathlib.Core.List.{List, [], ◌∷◌}
+use Prim.Native.Nat.{ℕ, zero, suc, ◌+◌, ◌*◌, ◌/◌, ◌%◌, ◌^◌, ◌<◌}
 use native.Mathlib.Omega.{arith}
 use lib.ListN.{get_or}
 use Rattle.laws.specs.Bit.{bit}
@@ -37,3 +37,12 @@ beside_twice ws ys s z hs hw hz first second = bit_ext 64 z (get_or ws s 0) hz h
         let f : 8 * i + (2 * (j % 4) + o) ≡ k = omega arith in
         ap (λ (m : ℕ). bit m z) e ∙ second i j o (omega arith) (omega arith) (omega arith) ∙ ap (λ (m : ℕ). bit m (get_or ys j 0)) d
         ∙ first j (omega arith) i s o (omega arith) hs (omega arith) ∙ ap (λ (m : ℕ). bit m (get_or ws s 0)) f
+
+-- for each j
+pub all_beside : (ws : List ℕ) (a b c d : ℕ) → Beside 0 ws a → Beside 1 ws b → Beside 2 ws c → Beside 3 ws d
+    → (j i s o : ℕ) → j < 4 → i < 8 → s < 4 → o < 2 → bit (8 * i + (2 * s + o)) (get_or (a ∷ b ∷ c ∷ d ∷ []) j 0) ≡ bit (8 * i + (2 * (j % 4) + o)) (get_or ws s 0)
+all_beside ws a b c d ha hb hc hd zero i s o hj = ha i s o
+all_beside ws a b c d ha hb hc hd (suc zero) i s o hj = hb i s o
+all_beside ws a b c d ha hb hc hd (suc (suc zero)) i s o hj = hc i s o
+all_beside ws a b c d ha hb hc hd (suc (suc (suc zero))) i s o hj = hd i s o
+all_beside ws a b c d ha hb hc hd (suc (suc (suc (suc j)))) i s o hj = absurd (omega arith)

@@ -1,26 +1,27 @@
 -- The transposition, as two delta swaps; and a word's characters from the transposed pairs and the header's word.
-use mathlib.Core.Path.{◌≡◌, refl, sym, ap, ap₂, ◌∙◌}
+use mathlib.Core.Path.{◌≡◌, ap, ap₂, ◌∙◌}
 use mathlib.Core.Bool.{◌&&◌}
 use mathlib.Core.List.{List, [], ◌∷◌}
-use Prim.Native.Nat.{ℕ, ◌+◌, ◌*◌, ◌/◌, ◌-◌, ◌%◌, ◌^◌, ◌<◌}
+use Prim.Native.Nat.{ℕ, ◌+◌, ◌*◌, ◌/◌, ◌%◌, ◌^◌, ◌<◌}
 use native.Mathlib.Nat.{zero-add}
 use native.Mathlib.Omega.{arith}
 use lib.Bits.{bit_or, or_shifted_r}
 use lib.Dec.{T, eqb, eqb→eq}
-use lib.ListN.{get_or}
+use lib.ListN.{get_or, take, drop}
+use lib.Seq.{get_or-take, get_or-drop}
+use Rattle.std.specs.Int.{from_le_bytes, w32, w64}
 use Rattle.laws.specs.Bit.{bit}
-use Rattle.laws.proofs.Bits.{bit_mod, bit_shr}
+use Rattle.laws.proofs.Bits.{bit_mod}
+use Rattle.laws.specs.Digits.{numeral}
 use Rattle.laws.proofs.Digits.{numeral_agree, numeral-bit}
 use Rattle.laws.proofs.Finite.{below}
 use Rattle.laws.proofs.Swaps.{Swap, swap, swaps, sources, orderly, swaps_bit}
-use Rattle.laws.proofs.Tables.{made, made_at}
 use Rattle.laws.proofs.Truth.{and_left, and_right}
-use Rattle.laws.proofs.Xor.{on_bit}
 use Rattle.dvi.specs.Lanes.{lanes}
 use Rattle.hdmi.specs.Terc4.{terc4}
 use Rattle.hdmi.specs.Island.{header_bit, subpacket_bit, marker, across, data_word}
 use Rattle.island.specs.Pairs.{evens, odds}
-use Rattle.island.specs.Words.{transposed, Bytes, Subpacket, Pairs, Header, lane_symbol, word_from}
+use Rattle.island.specs.Words.{transposed, Subpacket, Pairs, Header, word_from}
 
 -- ---- the transposition
 
@@ -48,42 +49,36 @@ transposed_pair j s o hs ho =
     let d : k / 2 % 4 ≡ s = omega arith in
     omega arith
 
--- four bytes joined
-pub joined_bytes : (f : ℕ → ℕ) (v : ℕ) → ((s : ℕ) → f s < 256) → v ≡ f 0 + f 1 * 2 ^ 8 + f 2 * 2 ^ 16 + f 3 * 2 ^ 24 → Bytes f v
-unfolding Bytes
-joined_bytes f v small e s n hs hn =
-    ap (bit (8 * s + n)) (e ∙ omega arith) ∙ numeral-bit 8 f small 0 4 s n hs hn ∙ ap (λ (u : ℕ). bit n (f u)) (zero-add s)
+-- ---- words of a packet's bytes, the first byte lowest
 
--- the bytes of a packet from `at` on, as bits
-gathered : (p : List ℕ) (at h n : ℕ) → Bytes (λ s. get_or p (at + s) 0) h → n < 32 → bit n h ≡ bit (n % 8) (get_or p (at + n / 8) 0)
-unfolding Bytes
-gathered p at h n bytes l =
-    let d : n ≡ 8 * (n / 8) + n % 8 = omega arith in
-    ap (λ (j : ℕ). bit j h) d ∙ bytes (n / 8) (n % 8) (omega arith) (omega arith)
+module _ (p : List ℕ) (small : (m : ℕ) → get_or p m 0 < 256) (at : ℕ) where
+  byte : (w s : ℕ) → s < w → get_or (take w (drop at p)) s 0 ≡ get_or p (at + s) 0
+  byte w s h = get_or-take w (drop at p) s 0 h ∙ get_or-drop at p s 0
 
-pub header_of : (p : List ℕ) (h : ℕ) → Bytes (λ s. get_or p (0 + s) 0) h → Header p 0 h
+  behind : ℕ → ℕ
+  behind s = get_or p (at + s) 0
+
+  bit_of : (w v : ℕ) → v ≡ numeral 8 (λ s. get_or (take w (drop at p)) s 0) 0 w → (n : ℕ) → n < 8 * w → bit n v ≡ bit (n % 8) (get_or p (at + n / 8) 0)
+  bit_of w v e n h =
+      let d : n ≡ 8 * (n / 8) + n % 8 = omega arith in
+      ap₂ bit d (e ∙ numeral_agree 8 (λ s. get_or (take w (drop at p)) s 0) (λ s. get_or p (at + s) 0) 0 w (λ s l u. byte w s (omega arith)))
+      ∙ numeral-bit 8 (λ s. get_or p (at + s) 0) (λ s. small (at + s)) 0 w (n / 8) (n % 8) (omega arith) (omega arith)
+      ∙ ap (λ (s : ℕ). bit (n % 8) (get_or p (at + s) 0)) (zero-add (n / 8))
+
+  pub word_32 : (n : ℕ) → n < 32 → bit n (from_le_bytes w32 (take 4 (drop at p))) ≡ bit (n % 8) (get_or p (at + n / 8) 0)
+  word_32 n h = bit_of 4 (from_le_bytes w32 (take 4 (drop at p))) (omega arith) n (omega arith)
+
+  pub word_64 : (n : ℕ) → n < 64 → bit n (from_le_bytes w64 (take 8 (drop at p))) ≡ bit (n % 8) (get_or p (at + n / 8) 0)
+  word_64 n h = bit_of 8 (from_le_bytes w64 (take 8 (drop at p))) (omega arith) n (omega arith)
+
+pub header_of : (p l : List ℕ) → ((m : ℕ) → get_or p m 0 < 256) → l ≡ take 4 p → Header p 0 (from_le_bytes w32 l)
 unfolding Header header_bit
-header_of p h bytes k l = gathered p 0 h k bytes (omega arith) ∙ ap₂ (λ (x y : ℕ). bit x (get_or p y 0)) (omega arith) (omega arith)
+header_of p l small e k h =
+    ap (λ (l : List ℕ). bit k (from_le_bytes w32 l)) e ∙ word_32 p small 0 k (omega arith) ∙ ap₂ (λ (x y : ℕ). bit x (get_or p y 0)) (omega arith) (omega arith)
 
--- eight bytes in two words
-pub subpacket_of : (p : List ℕ) (s low high : ℕ) → low < 2 ^ 32 → Bytes (λ t. get_or p (4 + 8 * s + t) 0) low → Bytes (λ t. get_or p (8 + 8 * s + t) 0) high
-    → Subpacket p s (low + 4294967296 * high)
+pub subpacket_of : (p l : List ℕ) (s : ℕ) → ((m : ℕ) → get_or p m 0 < 256) → l ≡ take 8 (drop (4 + 8 * s) p) → Subpacket p s (from_le_bytes w64 l)
 unfolding Subpacket subpacket_bit
-subpacket_of p s low high small bl bh n l =
-    on_bit (λ (q : ℕ). n / 32 ≡ q → bit n v ≡ bit (n % 8) (get_or p (4 + 8 * s + n / 8) 0)) in-low in-high (n / 32) (omega arith) refl
-  where
-    v : ℕ
-    v = low + 4294967296 * high
-
-    in-low : n / 32 ≡ 0 → bit n v ≡ bit (n % 8) (get_or p (4 + 8 * s + n / 8) 0)
-    in-low h = sym (bit_mod n 32 v (omega arith)) ∙ ap (bit n) (omega arith) ∙ gathered p (4 + 8 * s) low n bl (omega arith)
-
-    in-high : n / 32 ≡ 1 → bit n v ≡ bit (n % 8) (get_or p (4 + 8 * s + n / 8) 0)
-    in-high h =
-        let m : ℕ = n - 32 in
-        let e : n ≡ 32 + m = omega arith in
-        ap (λ (k : ℕ). bit k v) e ∙ sym (bit_shr m 32 v) ∙ ap (bit m) (omega arith) ∙ gathered p (8 + 8 * s) high m bh (omega arith)
-        ∙ ap₂ (λ (x y : ℕ). bit x (get_or p y 0)) (omega arith) (omega arith)
+subpacket_of p l s small e n h = ap (λ (l : List ℕ). bit n (from_le_bytes w64 l)) e ∙ word_64 p small (4 + 8 * s) n h
 
 -- lane 0 or-ed in below the two others
 pub or_lanes : (a b c : ℕ) → a < 1024 → bit_or a (lanes 0 b c) ≡ lanes a b c
@@ -91,10 +86,6 @@ or_lanes a b c h =
     let y : ℕ = b + c * 2 ^ 10 in
     let e : lanes 0 b c ≡ y * 2 ^ 10 = omega arith in
     ap (bit_or a) e ∙ or_shifted_r y 10 a h ∙ omega arith
-
--- lane 0's symbols, each at its place
-pub zero_at : (hv : ℕ) (zero : List ℕ) (n : ℕ) → zero ≡ made (lane_symbol hv) 0 4 → n < 4 → get_or zero n 0 ≡ terc4 (hv + 4 * n)
-zero_at hv zero n e h = ap (λ (l : List ℕ). get_or l n 0) e ∙ made_at (lane_symbol hv) 4 n h
 
 -- ---- one character
 

@@ -1,13 +1,20 @@
 -- How the 36 words become the island, one after the other.
 use mathlib.Core.Path.{◌≡◌, sym, ap, subst, ◌∙◌}
 use mathlib.Core.List.{List}
-use Prim.Native.Nat.{ℕ, ◌+◌, ◌≤◌, ◌<◌}
+use Prim.Native.Nat.{ℕ, ◌+◌, ◌*◌, ◌≤◌, ◌<◌}
 use native.Mathlib.Omega.{arith}
 use lib.ListN.{set}
 use Rattle.laws.specs.Front.{Front}
 use Rattle.laws.proofs.Fronts.{front_more}
 use Rattle.hdmi.specs.Island.{guard_word, data_word, island_word, island}
+use Rattle.island.specs.Words.{Header, Rows}
 use Rattle.hdmi.proofs.Island.{length-island, island_at, data_at, guard_low, guard_high}
+
+-- the words before character 4 i, and the packet's bits from there on
+pub record Sent (hv : ℕ) (p : List ℕ) (i header : ℕ) (rows words : List ℕ) : Type 0 where
+  pub front : Front (island hv p) (2 + 4 * i) words
+  pub head : Header p i header
+  pub pairs : Rows p i rows
 
 module _ (hv : ℕ) (p : List ℕ) where
   -- the indices m and n come as the code writes them

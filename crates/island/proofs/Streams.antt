@@ -90,27 +90,30 @@ module _ (j : ℕ) where
         ∙ twos_high (x / 2 ^ by) (y / 2 ^ by) (on + (8 * i + o)) (omega arith) (omega arith) ∙ bit_shr (on + (8 * i + o)) by y
         ∙ ap (λ (m : ℕ). bit m y) (omega arith)
 
-  module _ (x0 x1 x2 x3 : ℕ) where
+  module _ (ws : List ℕ) where
+    abbrev word : ℕ → ℕ
+    word s = get_or ws s 0
+
     abbrev one : ℕ
-    one = twos (x0 / 2 ^ by) (x1 / 2 ^ by)
+    one = twos (word 0 / 2 ^ by) (word 1 / 2 ^ by)
 
     abbrev two : ℕ
-    two = twos (x2 / 2 ^ by) (x3 / 2 ^ by)
+    two = twos (word 2 / 2 ^ by) (word 3 / 2 ^ by)
 
     pub side_by_side : (i s o : ℕ) → i < 8 → s < 4 → o < 2
-        → bit (8 * i + (2 * s + o)) (fours (one / 2 ^ on) (two / 2 ^ on)) ≡ bit (8 * i + (2 * (j % 4) + o)) (get_or (x0 ∷ x1 ∷ x2 ∷ x3 ∷ []) s 0)
+        → bit (8 * i + (2 * s + o)) (fours (one / 2 ^ on) (two / 2 ^ on)) ≡ bit (8 * i + (2 * (j % 4) + o)) (word s)
     side_by_side i zero o hi hs ho =
         ap (λ (m : ℕ). bit m (fours (one / 2 ^ on) (two / 2 ^ on))) (omega arith)
-        ∙ fours_low (one / 2 ^ on) (two / 2 ^ on) (8 * i + o) (omega arith) (omega arith) ∙ bit_shr (8 * i + o) on one ∙ lower i o hi ho x0 x1
+        ∙ fours_low (one / 2 ^ on) (two / 2 ^ on) (8 * i + o) (omega arith) (omega arith) ∙ bit_shr (8 * i + o) on one ∙ lower i o hi ho (word 0) (word 1)
     side_by_side i (suc zero) o hi hs ho =
         ap (λ (m : ℕ). bit m (fours (one / 2 ^ on) (two / 2 ^ on))) (omega arith)
-        ∙ fours_low (one / 2 ^ on) (two / 2 ^ on) (8 * i + (2 + o)) (omega arith) (omega arith) ∙ bit_shr (8 * i + (2 + o)) on one ∙ higher i o hi ho x0 x1
+        ∙ fours_low (one / 2 ^ on) (two / 2 ^ on) (8 * i + (2 + o)) (omega arith) (omega arith) ∙ bit_shr (8 * i + (2 + o)) on one ∙ higher i o hi ho (word 0) (word 1)
     side_by_side i (suc (suc zero)) o hi hs ho =
         ap (λ (m : ℕ). bit m (fours (one / 2 ^ on) (two / 2 ^ on))) (omega arith)
-        ∙ fours_high (one / 2 ^ on) (two / 2 ^ on) (8 * i + o) (omega arith) (omega arith) ∙ bit_shr (8 * i + o) on two ∙ lower i o hi ho x2 x3
+        ∙ fours_high (one / 2 ^ on) (two / 2 ^ on) (8 * i + o) (omega arith) (omega arith) ∙ bit_shr (8 * i + o) on two ∙ lower i o hi ho (word 2) (word 3)
     side_by_side i (suc (suc (suc zero))) o hi hs ho =
         ap (λ (m : ℕ). bit m (fours (one / 2 ^ on) (two / 2 ^ on))) (omega arith)
-        ∙ fours_high (one / 2 ^ on) (two / 2 ^ on) (8 * i + (2 + o)) (omega arith) (omega arith) ∙ bit_shr (8 * i + (2 + o)) on two ∙ higher i o hi ho x2 x3
+        ∙ fours_high (one / 2 ^ on) (two / 2 ^ on) (8 * i + (2 + o)) (omega arith) (omega arith) ∙ bit_shr (8 * i + (2 + o)) on two ∙ higher i o hi ho (word 2) (word 3)
     side_by_side i (suc (suc (suc (suc s)))) o hi hs ho = absurd (omega arith)
 
 -- the subpackets of a packet

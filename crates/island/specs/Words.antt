@@ -11,10 +11,6 @@ use Rattle.island.specs.Pairs.{evens, odds}
 abbrev pub transposed : ℕ → ℕ
 transposed k = 8 * (k / 2 % 4) + 2 * (k / 8) + k % 2
 
--- v is the bytes f 0 to f 3, the first lowest
-unfoldable pub Bytes : (ℕ → ℕ) → ℕ → Type 0
-Bytes f v = (s n : ℕ) → s < 4 → n < 8 → bit (8 * s + n) v ≡ bit n (f s)
-
 -- v is subpacket s of the packet p
 unfoldable pub Subpacket : List ℕ → ℕ → ℕ → Type 0
 Subpacket p s v = (n : ℕ) → n < 64 → bit n v ≡ subpacket_bit p s n
@@ -34,10 +30,6 @@ Header p i h = (k : ℕ) → 4 * i + k < 32 → bit k h ≡ header_bit p (4 * i 
 -- x under the mask `low`, and y, moved up by k, under the mask `high`
 unfoldable pub merged : ℕ → ℕ → ℕ → ℕ → ℕ → ℕ
 merged x y k low high = bit_or (bit_and x low) (bit_and (y * 2 ^ k % 2 ^ 64) high)
-
--- the symbols that lane 0 has with a sync pair: n is the header's bit, and 2 more with the marker
-abbrev pub lane_symbol : ℕ → ℕ → ℕ
-lane_symbol hv n = terc4 (hv + 4 * n)
 
 -- character 4 i + j, from the header's bits behind the first 4 i and a byte of pairs at the low end of v
 unfoldable pub word_from : ℕ → ℕ → ℕ → ℕ → ℕ → ℕ

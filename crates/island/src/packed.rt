@@ -1,6 +1,8 @@
-// The 256 packed words of data_island.rs: lanes 1 and 2 of a character, by the byte that has the bit pair of subpacket s at bit 2 s. Their rule is
-// `two_lanes` (specs/Pairs.antt).
-pub const PACKED: [u32; 256] = [
+// The 256 packed words of data_island.rs: lanes 1 and 2 of a character, by the byte that has the bit pair of subpacket s at bit 2 s.
+ghost use Rattle.std.specs.Prelude.{◌≡◌};
+ghost use Rattle.island.specs.Pairs.{two_lanes};
+
+static PACKED: [u32; 256] = [
     0x29ca7000, 0x29c98c00, 0x263a7000, 0x26398c00, 0x29cb9000, 0x29cb8800, 0x263b9000, 0x263b8800,
     0x2e4a7000, 0x2e498c00, 0x2e2a7000, 0x2e298c00, 0x2e4b9000, 0x2e4b8800, 0x2e2b9000, 0x2e2b8800,
     0x29c5c400, 0x29c47800, 0x2635c400, 0x26347800, 0x29c63800, 0x29c4f000, 0x26363800, 0x2634f000,
@@ -34,3 +36,9 @@ pub const PACKED: [u32; 256] = [
     0x28ea3800, 0x28e9c400, 0x271a3800, 0x2719c400, 0x28e58c00, 0x28eb0c00, 0x27158c00, 0x271b0c00,
     0x163a3800, 0x1639c400, 0x2c3a3800, 0x2c39c400, 0x16358c00, 0x163b0c00, 0x2c358c00, 0x2c3b0c00,
 ];
+
+pub fn two_lanes(pairs: u8) -> u32
+    ensures { result ≡ two_lanes pairs }
+{
+    PACKED[pairs as usize]
+}

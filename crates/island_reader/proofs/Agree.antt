@@ -9,20 +9,20 @@ use borrow.Author.Tests.{lt-ltb, le-ltb, eq-eqb, ne_eqb}
 use lib.Dec.{eqb}
 use lib.ListN.{length, get_or}
 use lib.Seq.{ext_get_or}
+use Rattle.std.specs.Prelude.{Ok}
 use Rattle.laws.specs.Bit.{bit}
 use Rattle.laws.proofs.Bits.{bit_mod, bit_shr}
 use Rattle.laws.proofs.Digits.{numeral_agree}
 use Rattle.laws.proofs.Searching.{first_agree}
 use Rattle.laws.proofs.Tables.{made_at}
 use Rattle.refusal.specs.declared.Refusal.TheVariants.{SyncBits}
-use Rattle.refusal.specs.declared.Verdict.TheVariants.{Fine}
 use Rattle.refusal.specs.Verdict.{unless, verdict}
 use Rattle.hdmi.specs.Island.{marker}
 use Rattle.hdmi.proofs.Island.{marker_is}
 use Rattle.island_reader.specs.Found.{number_on, unread, header_found, subpacket_found, header_byte, subpacket_byte, byte_found, packet_found}
 use Rattle.island_reader.specs.Numbers.{numbers_of, numbers_in, header_in, subpacket_in, header_byte_in, subpacket_byte_in, packet_in, sync_unlike}
 use Rattle.island_reader.specs.Read.{nowhere, sync_wrong}
-use Rattle.island_reader.proofs.Nibbles.{numbers_lt, numbers_read, numbers_at}
+use Rattle.island_reader.proofs.Nibbles.{numbers_lt, numbers_at}
 use Rattle.island_reader.proofs.Unpacking.{byte_in, length_packet, packet_at}
 
 pub length_found : (ws : List ℕ) → length (packet_found ws) ≡ 36
@@ -37,22 +37,22 @@ found_at ws = made_at (byte_found ws) 36
 
 header-bit : (w : ℕ) → unread w ≡ false → bit 2 (numbers_of w) ≡ bit 2 (number_on 0 w)
 unfolding bit
-header-bit w e = omega (arith, numbers_read w e, numbers_lt w e)
+header-bit w e = omega (arith, numbers_lt w e)
 
 low_two : (w : ℕ) → unread w ≡ false → numbers_of w % 4 ≡ number_on 0 w % 4
-low_two w e = omega (arith, numbers_read w e)
+low_two w e = omega arith
 
 low_four : (w : ℕ) → unread w ≡ false → numbers_of w % 16 ≡ number_on 0 w
-low_four w e = omega (arith, numbers_read w e, numbers_lt w e)
+low_four w e = omega (arith, numbers_lt w e)
 
 subpacket-bit : (w s o : ℕ) → s < 4 → o < 2 → unread w ≡ false → bit (4 + 4 * o + s) (numbers_of w) ≡ bit s (number_on (1 + o) w)
 subpacket-bit w s zero hs ho e =
     let x : ℕ = numbers_of w in
-    let d : x / 2 ^ 4 % 2 ^ 4 ≡ number_on 1 w = omega (arith, numbers_read w e, numbers_lt w e) in
+    let d : x / 2 ^ 4 % 2 ^ 4 ≡ number_on 1 w = omega (arith, numbers_lt w e) in
     sym (bit_shr s 4 x) ∙ sym (bit_mod s 4 (x / 2 ^ 4) hs) ∙ ap (bit s) d
 subpacket-bit w s (suc zero) hs ho e =
     let x : ℕ = numbers_of w in
-    let d : x / 2 ^ 8 ≡ number_on 2 w = omega (arith, numbers_read w e, numbers_lt w e) in
+    let d : x / 2 ^ 8 ≡ number_on 2 w = omega (arith, numbers_lt w e) in
     sym (bit_shr s 8 x) ∙ ap (bit s) d
 subpacket-bit w s (suc (suc o)) hs ho e = absurd (omega arith)
 
@@ -126,7 +126,7 @@ module _ (ws : List ℕ) (clean : (k : ℕ) → k < 32 → unread (get_or ws (2 
     pub sync-ask-agrees : verdict (nowhere (sync_unlike hv (numbers_in ws)) 2 32 SyncBits ∷ []) ≡ verdict (nowhere (sync_wrong hv ws) 2 32 SyncBits ∷ [])
     unfolding nowhere
     sync-ask-agrees =
-        ap (λ (x : ℕ). unless (eqb x 34) (SyncBits x) Fine)
+        ap (λ (x : ℕ). unless (eqb x 34) (SyncBits x) (Ok tt))
         (first_agree (sync_unlike hv (numbers_in ws)) (sync_wrong hv ws) 2 32
         (λ i a b.
         let e : 2 + (i - 2) ≡ i = omega arith in

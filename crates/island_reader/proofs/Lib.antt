@@ -5,8 +5,9 @@ pub mod Edges
 pub mod Lowest
 pub mod Nibbles
 pub mod Nowhere
+pub mod Positions
 pub mod Regroup
-pub mod Sealing
+pub mod Right
 pub mod Sound
 pub mod SyncPairs
 pub mod Unpacking

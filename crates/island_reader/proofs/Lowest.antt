@@ -8,9 +8,9 @@ use native.Mathlib.Omega.{arith}
 use borrow.Author.Tests.{eqb-false, ne_eqb, not-true}
 use lib.Dec.{T, eqb}
 use lib.ListN.{length, get_or}
+use Rattle.std.specs.Prelude.{Err}
 use Rattle.refusal.specs.declared.Refusal.{Refusal}
 use Rattle.refusal.specs.declared.Refusal.TheVariants.{Length, HighBits, GuardWord, NotTerc4, SyncBits, HeaderParity, SubpacketParity}
-use Rattle.refusal.specs.declared.Verdict.TheVariants.{Refused}
 use Rattle.refusal.specs.Refusal.{number_of, place_of}
 use Rattle.refusal.specs.Verdict.{Ask, verdict, rising}
 use Rattle.refusal.proofs.Verdicts.{Fails, here, later, applies, refused, lowest}
@@ -95,7 +95,7 @@ module _ (ws out : List ℕ) where
       (and from_high (and from_guard (and from_lane (and from_sync (and in_header (and from_block no_more)))))))
 
   -- the refusal that is given applies
-  pub given_applies : (r : Refusal) → verdict (read_asks ws out) ≡ Refused r → Applies ws out r
+  pub given_applies : (r : Refusal) → verdict (read_asks ws out) ≡ Err r → Applies ws out r
   given_applies r e = each each_applies (applies (read_asks ws out) r e)
 
   -- ---- what applies makes a question fail, with its number and at its place or a lower one
@@ -157,7 +157,7 @@ module _ (ws out : List ℕ) where
       }
 
   -- a refusal is given exactly when one applies
-  pub refused_when : (s : Refusal) → Applies ws out s → (r : Refusal) × (verdict (read_asks ws out) ≡ Refused r)
+  pub refused_when : (s : Refusal) → Applies ws out s → (r : Refusal) × (verdict (read_asks ws out) ≡ Err r)
   refused_when s a = refused (asked s a).fails
 
   -- ---- each number has one question, and so one refusal
@@ -176,7 +176,7 @@ module _ (ws out : List ℕ) where
       and (λ e. refl) (and (λ e. refl) (and (λ e. refl) (and (λ e. refl) (and (λ e. refl) (and (λ e. refl) (and (λ e. refl) (and (λ e. refl) no_more)))))))
 
   -- none that applies has a lower number; nor, with the same number, a lower place
-  pub none_lower : (r s : Refusal) → verdict (read_asks ws out) ≡ Refused r → Applies ws out s
+  pub none_lower : (r s : Refusal) → verdict (read_asks ws out) ≡ Err r → Applies ws out s
       → (number_of r ≤ number_of s) × (number_of r ≡ number_of s → place_of r ≤ place_of s)
   none_lower r s e a =
       let q = asked s a in

@@ -1,17 +1,21 @@
 -- The numbers of a word's lanes in one number: there and back.
-use mathlib.Core.Path.{◌≡◌, refl}
+use mathlib.Core.Path.{◌≡◌, refl, ap, ◌∙◌}
 use mathlib.Core.Bool.{Bool, true, false, ◌||◌}
 use mathlib.Core.List.{List}
-use Prim.Native.Nat.{ℕ, ◌+◌, ◌*◌, ◌≤◌, ◌<◌}
+use Prim.Native.Nat.{ℕ, ◌+◌, ◌-◌, ◌≤◌, ◌<◌}
 use native.Mathlib.Omega.{arith}
-use borrow.Author.Tests.{eqb-false, eq-eqb, ne_eqb}
-use lib.Dec.{eqb}
+use borrow.Author.Tests.{eqb-false, eq-eqb, ne_eqb, ltb-true, ltb-false}
+use lib.Dec.{eqb, ltb}
 use lib.ListN.{length, get_or}
+use Rattle.std.specs.Prelude.{Some, None}
+use Rattle.std.specs.Bool.{then_some}
+use Rattle.laws.specs.Front.{Front}
 use Rattle.laws.proofs.Tables.{made_at}
 use Rattle.dvi.specs.Lanes.{lane}
 use Rattle.hdmi.proofs.Terc4.{number_le}
 use Rattle.island_reader.specs.Found.{number_on, unread}
 use Rattle.island_reader.specs.Numbers.{numbers_of, numbers_in}
+use Rattle.island_reader.specs.Read.{lane_wrong}
 
 neither : (a b c : Bool) → (a || (b || c)) ≡ false → (a ≡ false) × (b ≡ false) × (c ≡ false)
 neither false false false e = (refl, refl, refl)
@@ -21,6 +25,25 @@ neither true b c e = let z : ◌≡◌ {A = ℕ} 0 1 = cc in absurd (omega arith
 
 pub on_lane_le : (t w : ℕ) → number_on t w ≤ 16
 on_lane_le t w = number_le (lane t w)
+
+-- ---- the number on one lane, read or not
+
+none_by : (b : Bool) (n : ℕ) → then_some b n ≡ None → b ≡ false
+none_by true n e = let z : ◌≡◌ {A = ℕ} 0 1 = cc in absurd (omega arith)
+none_by false n e = refl
+
+some_by : (b : Bool) (n m : ℕ) → then_some b n ≡ Some m → (b ≡ true) × (n ≡ m)
+some_by true n m e = (refl, cc)
+some_by false n m e = let z : ◌≡◌ {A = ℕ} 0 1 = cc in absurd (omega arith)
+
+pub lane_none : (t w : ℕ) → then_some (ltb (number_on t w) 16) (number_on t w) ≡ None → number_on t w ≡ 16
+lane_none t w e =
+    omega (arith, ltb-false (number_on t w) 16 (none_by (ltb (number_on t w) 16) (number_on t w) e), on_lane_le t w)
+
+pub lane_some : (t w n : ℕ) → then_some (ltb (number_on t w) 16) (number_on t w) ≡ Some n → (number_on t w < 16) × (number_on t w ≡ n)
+lane_some t w n e =
+    let h = some_by (ltb (number_on t w) 16) (number_on t w) n e in
+    (ltb-true (number_on t w) 16 h.0, h.1)
 
 -- ---- which lane isn't TERC4
 
@@ -48,29 +71,7 @@ numbers_lt w e =
       omega (arith, on_lane_le 2 w, eqb-false (number_on 2 w) 16 t.2),
     )
 
--- ---- the one number
-
-pub numbers_unread : (w : ℕ) → unread w ≡ true → numbers_of w ≡ 4096
-unfolding numbers_of
-numbers_unread w e = simp e
-
-pub numbers_read : (w : ℕ) → unread w ≡ false → numbers_of w ≡ number_on 0 w + 16 * number_on 1 w + 256 * number_on 2 w
-unfolding numbers_of
-numbers_read w e = simp e
-
-unread_by : (t : Bool) (w : ℕ) → unread w ≡ t → 4096 ≤ numbers_of w → unread w ≡ true
-unread_by true w e h = e
-unread_by false w e h = absurd (omega (arith, numbers_read w e, numbers_lt w e))
-
-pub unread_means : (w : ℕ) → 4096 ≤ numbers_of w → unread w ≡ true
-unread_means w = unread_by (unread w) w refl
-
-read_by : (t : Bool) (w : ℕ) → unread w ≡ t → numbers_of w < 4096 → unread w ≡ false
-read_by false w e h = e
-read_by true w e h = absurd (omega (arith, numbers_unread w e))
-
-pub read_means : (w : ℕ) → numbers_of w < 4096 → unread w ≡ false
-read_means w = read_by (unread w) w refl
+-- ---- the numbers of an island's words
 
 pub length_numbers : (ws : List ℕ) → length (numbers_in ws) ≡ 32
 unfolding numbers_in
@@ -79,3 +80,17 @@ length_numbers ws = refl
 pub numbers_at : (ws : List ℕ) (k : ℕ) → k < 32 → get_or (numbers_in ws) k 0 ≡ numbers_of (get_or ws (2 + k) 0)
 unfolding numbers_in
 numbers_at ws = made_at (λ k. numbers_of (get_or ws (2 + k) 0)) 32
+
+-- the words before 2 + k are read, and their numbers found
+pub record ReadBelow (ws : List ℕ) (k : ℕ) (found : List ℕ) : Type 0 where
+  pub clean : (j : ℕ) → j < k → unread (get_or ws (2 + j) 0) ≡ false
+  pub front : Front (numbers_in ws) k found
+
+-- what holds of the words before 2 + k, by their number
+pub from_two : (f : ℕ → Bool) (k : ℕ) → ((j : ℕ) → j < k → f (2 + j) ≡ false) → (j : ℕ) → 2 ≤ j → j < 2 + k → f j ≡ false
+from_two f k h j a b =
+    let e : j ≡ 2 + (j - 2) = omega arith in
+    ap f e ∙ h (j - 2) (omega arith)
+
+pub clean_words : (ws : List ℕ) (k : ℕ) → ((j : ℕ) → j < k → unread (get_or ws (2 + j) 0) ≡ false) → (j : ℕ) → 2 ≤ j → j < 2 + k → lane_wrong ws j ≡ false
+clean_words ws = from_two (lane_wrong ws)

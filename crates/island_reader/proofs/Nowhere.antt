@@ -6,19 +6,19 @@ use Prim.Native.Nat.{ℕ, ◌+◌, ◌≤◌, ◌<◌}
 use native.Mathlib.Decide.{dec_lt}
 use native.Mathlib.Omega.{arith}
 use borrow.Author.Tests.{eq-eqb, ne_eqb, eqb-true, eqb-false}
+use Rattle.std.specs.Prelude.{Ok, Err}
 use Rattle.laws.specs.Search.{first}
 use Rattle.laws.proofs.Searching.{before, none, found, first_le, first_ge}
 use Rattle.refusal.specs.declared.Refusal.{Refusal}
-use Rattle.refusal.specs.declared.Verdict.TheVariants.{Fine, Refused}
 use Rattle.refusal.specs.Verdict.{verdict}
 use Rattle.island_reader.specs.Read.{nowhere}
 
 module _ (f : ℕ → Bool) (i n : ℕ) (refusal : ℕ → Refusal) where
-  pub refused_at : (k : ℕ) → first f i n ≡ k → k < i + n → verdict (nowhere f i n refusal ∷ []) ≡ Refused (refusal k)
+  pub refused_at : (k : ℕ) → first f i n ≡ k → k < i + n → verdict (nowhere f i n refusal ∷ []) ≡ Err (refusal k)
   unfolding nowhere
   refused_at k e h = simp (e, ne_eqb k (i + n) (λ d. omega arith))
 
-  pub found_none : first f i n ≡ i + n → verdict (nowhere f i n refusal ∷ []) ≡ Fine
+  pub found_none : first f i n ≡ i + n → verdict (nowhere f i n refusal ∷ []) ≡ Ok tt
   unfolding nowhere
   found_none e = simp (e, eq-eqb (i + n) (i + n) refl)
 
@@ -60,6 +60,21 @@ module _ (f : ℕ → Bool) (i n : ℕ) (refusal : ℕ → Refusal) where
       let z : ◌≡◌ {A = ℕ} 0 1 = cc in
       absurd (omega arith)
   not_past k l t (no h) = omega (arith, h)
+
+  -- the lowest place where the test holds
+  lowest_by : (k : ℕ) → k < i + n → ((j : ℕ) → i ≤ j → j < k → f j ≡ false) → first f i n ≤ k → Dec (first f i n < k) → first f i n ≡ k
+  lowest_by k u none m (yes h) =
+      let e : true ≡ false = sym (found f i n (omega arith)) ∙ none (first f i n) (first_ge f i n) h in
+      let z : ◌≡◌ {A = ℕ} 0 1 = cc in
+      absurd (omega arith)
+  lowest_by k u none m (no h) = omega (arith, h)
+
+  pub refused_first : (k : ℕ) → i ≤ k → k < i + n → f k ≡ true → ((j : ℕ) → i ≤ j → j < k → f j ≡ false) → verdict (nowhere f i n refusal ∷ []) ≡ Err (refusal k)
+  refused_first k l u t none =
+      refused_at k (lowest_by k u none (not_past k l t (dec_lt k (first f i n))) (dec_lt (first f i n) k)) u
+
+  pub refused_none : ((j : ℕ) → i ≤ j → j < i + n → f j ≡ false) → verdict (nowhere f i n refusal ∷ []) ≡ Ok tt
+  refused_none h = found_none (none f i n h)
 
   pub fails_at : (k : ℕ) → i ≤ k → k < i + n → f k ≡ true → Lower k
   unfolding nowhere

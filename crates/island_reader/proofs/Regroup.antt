@@ -2,19 +2,21 @@
 use mathlib.Core.Path.{◌≡◌, sym, ap, ap₂, ◌∙◌}
 use mathlib.Core.Bool.{◌&&◌}
 use mathlib.Core.List.{List, [], ◌∷◌}
-use Prim.Native.Nat.{ℕ, ◌+◌, ◌*◌, ◌/◌, ◌%◌, ◌^◌, ◌<◌}
+use Prim.Native.Nat.{ℕ, ◌+◌, ◌-◌, ◌*◌, ◌/◌, ◌%◌, ◌^◌, ◌≤◌, ◌<◌}
 use native.Mathlib.Nat.{zero-add}
 use native.Mathlib.Omega.{arith}
+use Rattle.std.proofs.Math.Pow.{pow_mono}
 use lib.Dec.{T, eqb, eqb→eq}
 use lib.ListN.{get_or}
 use Rattle.laws.specs.Bit.{bit}
+use Rattle.laws.specs.Digits.{numeral}
 use Rattle.laws.proofs.Bits.{bit_lt, bit_mod, bit_shr, bit_ext}
 use Rattle.laws.proofs.Digits.{numeral-bit, numeral_lt, bits_bit, bits_lt}
 use Rattle.laws.proofs.Finite.{below}
 use Rattle.laws.proofs.Swaps.{Swap, swap, swaps, sources, orderly, swaps_bit}
 use Rattle.laws.proofs.Truth.{and_left, and_right}
-use Rattle.island.specs.Words.{transposed, Bytes}
-use Rattle.island.proofs.Characters.{transposed_pair, joined_bytes}
+use Rattle.island.specs.Words.{transposed}
+use Rattle.island.proofs.Characters.{transposed_pair}
 use Rattle.island_reader.specs.Numbers.{header_in, subpacket_in, subpacket_byte_in, group_in, shuffled}
 
 -- ---- the shuffle
@@ -49,6 +51,12 @@ pub header_in_lt : (ns : List ℕ) (k : ℕ) → header_in ns k < 2
 unfolding header_in
 header_in_lt ns k = bit_lt 2 (get_or ns k 0)
 
+-- some of a header's byte
+pub header_part_lt : (ns : List ℕ) (i n : ℕ) → numeral 1 (λ n. header_in ns (8 * i + n)) n (8 - n) < 256
+header_part_lt ns i n =
+    let most : (8 - n) * 1 ≤ 8 = omega arith in
+    omega (arith, numeral_lt 1 (λ n. header_in ns (8 * i + n)) (λ n. header_in_lt ns (8 * i + n)) n (8 - n), pow_mono most)
+
 pub subpacket_in_lt : (ns : List ℕ) (s n : ℕ) → subpacket_in ns s n < 2
 unfolding subpacket_in
 subpacket_in_lt ns s n = bit_lt (4 + 4 * (n % 2) + s) (get_or ns (n / 2) 0)
@@ -78,11 +86,14 @@ module _ (ns : List ℕ) (i v h r : ℕ) where
   abbrev nibbles : ℕ → ℕ
   nibbles j = get_or ns (4 * i + j) 0 / 16 % 256
 
-  module _ (join : v ≡ nibbles 0 + nibbles 1 * 2 ^ 8 + nibbles 2 * 2 ^ 16 + nibbles 3 * 2 ^ 24) (shuffle : (k : ℕ) → k < 32 → bit k h ≡ bit (shuffled k) v) (transpose : (k : ℕ) → k < 32 → bit k r ≡ bit (transposed k) h) where
+  module _ (join : v ≡ nibbles 0 + nibbles 1 * 256 + nibbles 2 * 65536 + nibbles 3 * 16777216) (shuffle : (k : ℕ) → k < 32 → bit k h ≡ bit (shuffled k) v) (transpose : (k : ℕ) → k < 32 → bit k r ≡ bit (transposed k) h) where
     regrouped : (s j o : ℕ) → s < 4 → j < 4 → o < 2 → bit (8 * s + (2 * j + o)) r ≡ subpacket_in ns s (8 * i + (2 * j + o))
-    unfolding Bytes subpacket_in
+    unfolding subpacket_in
     regrouped s j o hs hj ho =
-        let bytes = joined_bytes nibbles v (λ j. omega arith) join in
+        let whole : v ≡ numeral 8 nibbles 0 4 = omega arith in
+        let bytes : bit (8 * j + (4 * o + s)) v ≡ bit (4 * o + s) (nibbles j) =
+        ap (bit (8 * j + (4 * o + s))) whole ∙ numeral-bit 8 nibbles (λ j. omega arith) 0 4 j (4 * o + s) hj (omega arith)
+        ∙ ap (λ (m : ℕ). bit (4 * o + s) (nibbles m)) (zero-add j) in
         let x : ℕ = get_or ns (4 * i + j) 0 in
         let n : ℕ = 8 * i + (2 * j + o) in
         let a : n % 2 ≡ o = omega arith in
@@ -90,7 +101,7 @@ module _ (ns : List ℕ) (i v h r : ℕ) where
         let c : 4 + (4 * o + s) ≡ 4 + 4 * o + s = omega arith in
         transpose (8 * s + (2 * j + o)) (omega arith) ∙ ap (λ (k : ℕ). bit k h) (transposed_pair s j o hj ho)
         ∙ shuffle (8 * j + (2 * s + o)) (omega arith) ∙ ap (λ (k : ℕ). bit k v) (shuffled_pair j s o hs ho)
-        ∙ bytes j (4 * o + s) hj (omega arith) ∙ bit_mod (4 * o + s) 8 (x / 16) (omega arith) ∙ bit_shr (4 * o + s) 4 x
+        ∙ bytes ∙ bit_mod (4 * o + s) 8 (x / 16) (omega arith) ∙ bit_shr (4 * o + s) 4 x
         ∙ ap (λ (k : ℕ). bit k x) c ∙ ap₂ (λ (u w : ℕ). bit (4 + 4 * u + s) (get_or ns w 0)) (sym a) (sym b)
 
     by_bit : (k : ℕ) → k < 32 → bit k r ≡ bit k (group_in ns i)

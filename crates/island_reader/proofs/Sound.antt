@@ -9,12 +9,12 @@ use borrow.Author.Tests.{lt-ltb, le-ltb, eqb-true, not-false}
 use lib.Dec.{eqb, ltb}
 use lib.ListN.{length, get_or, get_or-eq_default}
 use lib.Seq.{ext_get_or}
+use Rattle.std.specs.Prelude.{Ok}
 use Rattle.laws.specs.Bit.{bit}
 use Rattle.laws.proofs.Bits.{bit_lt}
 use Rattle.laws.proofs.Digits.{numeral_agree, bits_bit, bits_lt, of_bits}
 use Rattle.laws.proofs.Truth.{true_T, T_true, and_left, and_right}
 use Rattle.refusal.specs.declared.Refusal.TheVariants.{HighBits, SyncBits}
-use Rattle.refusal.specs.declared.Verdict.TheVariants.{Fine}
 use Rattle.refusal.specs.Verdict.{verdict}
 use Rattle.dvi.specs.Lanes.{lanes, lane}
 use Rattle.hdmi.specs.Terc4.{terc4}
@@ -88,7 +88,7 @@ module _ (ws : List ℕ) where
 
 -- ---- the words
 
-module _ (ws : List ℕ) (long : length ws ≡ 36) (fine : verdict (word_asks ws) ≡ Fine) where
+module _ (ws : List ℕ) (long : length ws ≡ 36) (fine : verdict (word_asks ws) ≡ Ok tt) where
   abbrev hv : ℕ
   hv = pair_of (get_or ws 0 0)
 

@@ -6,7 +6,6 @@ use Prim.Native.Nat.{ℕ, ◌<◌, ◌≤◌}
 use borrow.Author.Tests.{eqb-true, eq-eqb, ne_eqb, lt-ltb, le-ltb}
 use lib.Dec.{eqb, ltb}
 use lib.ListN.{get_or}
-use Rattle.laws.specs.Search.{first}
 use Rattle.laws.proofs.Finite.{agreed}
 use Rattle.laws.proofs.Searching.{found, first_le}
 use Rattle.hdmi.specs.Terc4.{terc4}
@@ -41,20 +40,3 @@ module _ (hv : ℕ) (ws : List ℕ) (j : ℕ) where
 
   pub guard_none : 4 ≤ hv → guard_wrong hv ws j ≡ true
   guard_none h = simp (le-ltb hv 4 h)
-
--- the search among four, by what it passes over and what it meets
-module _ (f : ℕ → Bool) where
-  pub meets_0 : f 0 ≡ true → first f 0 4 ≡ 0
-  meets_0 a = simp a
-
-  pub meets_1 : f 0 ≡ false → f 1 ≡ true → first f 0 4 ≡ 1
-  meets_1 a b = simp (a, b)
-
-  pub meets_2 : f 0 ≡ false → f 1 ≡ false → f 2 ≡ true → first f 0 4 ≡ 2
-  meets_2 a b c = simp (a, b, c)
-
-  pub meets_3 : f 0 ≡ false → f 1 ≡ false → f 2 ≡ false → f 3 ≡ true → first f 0 4 ≡ 3
-  meets_3 a b c d = simp (a, b, c, d)
-
-  pub meets_none : f 0 ≡ false → f 1 ≡ false → f 2 ≡ false → f 3 ≡ false → first f 0 4 ≡ 4
-  meets_none a b c d = simp (a, b, c, d)

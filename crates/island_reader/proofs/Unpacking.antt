@@ -7,8 +7,9 @@ use native.Mathlib.Decide.{dec_lt}
 use native.Mathlib.Omega.{arith}
 use borrow.Author.Tests.{lt-ltb, le-ltb}
 use lib.Dec.{ltb}
-use lib.ListN.{length, get_or}
+use lib.ListN.{length, get_or, set, length-set}
 use lib.Seq.{ext_get_or}
+use Rattle.std.proofs.lemmas.List.{get_or-set_same, get_or-set_other}
 use Rattle.laws.proofs.Stores.{four_stored, four_length, elsewhere, first_store, second_store, third_store, fourth_store}
 use Rattle.laws.proofs.Tables.{made_at}
 use Rattle.island_reader.specs.Numbers.{header_byte_in, subpacket_byte_in, packet_in, Unpacked}
@@ -24,22 +25,25 @@ pub packet_at : (ns : List ℕ) (m : ℕ) → m < 36 → get_or (packet_in ns) m
 unfolding packet_in
 packet_at ns = made_at (byte_in ns) 36
 
--- the header's four
-pub with_header : (ns l : List ℕ) (x y z w : ℕ) → length l ≡ 36
-    → x ≡ header_byte_in ns 0 → y ≡ header_byte_in ns 1 → z ≡ header_byte_in ns 2 → w ≡ header_byte_in ns 3 → Unpacked ns 0 (four_stored l 0 1 2 3 x y z w)
-with_header ns l x y z w h ex ey ez ew =
-    record {
-      long = four_length l 0 1 2 3 x y z w ∙ h;
-      head = at;
-      rows = λ s j hs hj. absurd (omega arith);
-    }
-  where
-    at : (m : ℕ) → m < 4 → get_or (four_stored l 0 1 2 3 x y z w) m 0 ≡ header_byte_in ns m
-    at zero k = first_store l 0 1 2 3 x y z w (omega arith) (λ e. omega arith) (λ e. omega arith) (λ e. omega arith) ∙ ex
-    at (suc zero) k = second_store l 0 1 2 3 x y z w (omega arith) (λ e. omega arith) (λ e. omega arith) ∙ ey
-    at (suc (suc zero)) k = third_store l 0 1 2 3 x y z w (omega arith) (λ e. omega arith) ∙ ez
-    at (suc (suc (suc zero))) k = fourth_store l 0 1 2 3 x y z w (omega arith) ∙ ew
-    at (suc (suc (suc (suc m)))) k = absurd (omega arith)
+-- a packet with the header's bytes before m
+pub record Headed (ns : List ℕ) (m : ℕ) (p : List ℕ) : Type 0 where
+  pub long : length p ≡ 36
+  pub head : (k : ℕ) → k < m → get_or p k 0 ≡ header_byte_in ns k
+
+head_by : (ns p : List ℕ) (m x k : ℕ) → Headed ns m p → m < 36 → x ≡ header_byte_in ns m → k < m + 1 → Dec (k < m) → get_or (set p m x) k 0 ≡ header_byte_in ns k
+head_by ns p m x k h l e u (yes b) = get_or-set_other p m k x 0 (λ d. omega arith) ∙ h.head k b
+head_by ns p m x k h l e u (no b) =
+    let d : k ≡ m = omega (arith, b) in
+    ap (λ (j : ℕ). get_or (set p m x) j 0) d ∙ get_or-set_same p m x 0 (omega (arith, h.long)) ∙ e ∙ ap (header_byte_in ns) (sym d)
+
+-- one more of the header's
+pub headed_more : (ns p : List ℕ) (m x : ℕ) → Headed ns m p → m < 36 → x ≡ header_byte_in ns m → Headed ns (m + 1) (set p m x)
+headed_more ns p m x h l e =
+    record { long = simp length-set h.long; head = λ k u. head_by ns p m x k h l e u (dec_lt k m) }
+
+pub headed_all : (ns p : List ℕ) (m : ℕ) → 4 ≤ m → Headed ns m p → Unpacked ns 0 p
+headed_all ns p m l h =
+    record { long = h.long; head = λ k u. h.head k (omega arith); rows = λ s j hs hj. absurd (omega arith) }
 
 -- byte i of each subpacket
 module _ (ns l : List ℕ) (i x y z w : ℕ) (h : i < 8) (u : Unpacked ns i l) (ex : x ≡ subpacket_byte_in ns 0 i) (ey : y ≡ subpacket_byte_in ns 1 i) (ez : z ≡ subpacket_byte_in ns 2 i) (ew : w ≡ subpacket_byte_in ns 3 i) where

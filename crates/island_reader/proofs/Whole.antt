@@ -7,8 +7,8 @@ use native.Mathlib.Omega.{arith}
 use borrow.Author.Tests.{lt-ltb, eq-eqb}
 use lib.Dec.{eqb}
 use lib.ListN.{get_or}
+use Rattle.std.specs.Prelude.{Ok}
 use Rattle.refusal.specs.declared.Refusal.TheVariants.{HighBits, GuardWord, NotTerc4, SyncBits}
-use Rattle.refusal.specs.declared.Verdict.TheVariants.{Fine}
 use Rattle.refusal.specs.Verdict.{verdict}
 use Rattle.hdmi.specs.Island.{guard_word, marker, data_word, island}
 use Rattle.hdmi.proofs.Island.{island_at, data_at, guard_low, guard_high, every_word, zero_lt, across_lt, guard_lt, data_lt, on_lane_0, on_lane_1, on_lane_2, tells_pair, tells_marker}
@@ -85,7 +85,7 @@ module _ (hv : ℕ) (p : List ℕ) (pair : hv < 4) where
   holds_sync : (sync_ask hv ws).holds ≡ true
   holds_sync = holds_where (sync_wrong hv ws) 2 32 SyncBits (on_data (sync_wrong hv ws) in_sync)
 
-  pub island_passes : verdict (word_asks (island hv p)) ≡ Fine
+  pub island_passes : verdict (word_asks (island hv p)) ≡ Ok tt
   unfolding word_asks
   island_passes =
       let g : (guard_ask (pair_of (get_or ws 0 0)) ws).holds ≡ true = ap (λ (h : ℕ). (guard_ask h ws).holds) pair_found ∙ holds_guards in

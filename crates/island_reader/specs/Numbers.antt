@@ -4,11 +4,10 @@ use Rattle.laws.specs.Bit.{bit}
 use Rattle.laws.specs.Digits.{numeral}
 use Rattle.laws.proofs.Tables.{made}
 use Rattle.hdmi.specs.Island.{marker}
-use Rattle.island_reader.specs.Found.{number_on, unread}
+use Rattle.island_reader.specs.Found.{number_on}
 
--- 4096 where a lane isn't TERC4
-unfoldable pub numbers_of : ℕ → ℕ
-numbers_of w = cond (unread w) 4096 (number_on 0 w + 16 * number_on 1 w + 256 * number_on 2 w)
+abbrev pub numbers_of : ℕ → ℕ
+numbers_of w = number_on 0 w + 16 * number_on 1 w + 256 * number_on 2 w
 
 -- those of words 2 to 33
 unfoldable pub numbers_in : List ℕ → List ℕ

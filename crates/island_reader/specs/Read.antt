@@ -1,5 +1,5 @@
 -- What the reader asks of its arguments, and what it answers. Where a question is about many places, it fails at the lowest.
-use Rattle.std.specs.Prelude.{Bool, not, ◌&&◌, List, [], ◌∷◌, ◌++◌, ℕ, zero, suc, ◌+◌, ◌-◌, ◌*◌, ◌/◌, ◌%◌, ◌^◌, eqb, ltb, length, get_or}
+use Rattle.std.specs.Prelude.{Bool, not, ◌&&◌, List, [], ◌∷◌, ◌++◌, ℕ, zero, suc, ◌+◌, ◌-◌, ◌*◌, ◌/◌, ◌%◌, ◌^◌, eqb, ltb, length, get_or, Result, Ok, Err}
 use Rattle.laws.specs.Search.{first}
 use Rattle.refusal.specs.declared.Refusal.{Refusal}
 use Rattle.refusal.specs.declared.Refusal.TheVariants.{Length, HighBits, GuardWord, NotTerc4, SyncBits, HeaderParity, SubpacketParity}
@@ -7,8 +7,6 @@ use Rattle.refusal.specs.Verdict.{Ask, ask, verdict, answered, kept}
 use Rattle.hdmi.specs.Parity.{right}
 use Rattle.hdmi.specs.Packet.{header, subpacket}
 use Rattle.hdmi.specs.Island.{guard_word, marker}
-use Rattle.island_reader.specs.declared.IslandRead.{IslandRead}
-use Rattle.island_reader.specs.declared.IslandRead.TheVariants.{SyncPair, Refused}
 use Rattle.island_reader.specs.Found.{pair_of, number_on, unread, packet_found}
 
 -- f holds at none of the n numbers from i on; else the refusal at the lowest where it does
@@ -63,8 +61,8 @@ abbrev pub read_asks : List ℕ → List ℕ → List Ask
 read_asks ws out = ask (eqb (length ws) 36) Length ∷ ask (eqb (length out) 36) Length ∷ (word_asks ws ++ parity_asks (packet_found ws))
 
 -- the sync pair, or the refusal; and the packet where there is none
-abbrev pub read_answer : List ℕ → List ℕ → IslandRead
-read_answer ws out = answered (verdict (read_asks ws out)) (SyncPair (pair_of (get_or ws 0 0))) Refused
+abbrev pub read_answer : List ℕ → List ℕ → Result ℕ Refusal
+read_answer ws out = answered (verdict (read_asks ws out)) (Ok (pair_of (get_or ws 0 0))) Err
 
 abbrev pub read_out : List ℕ → List ℕ → List ℕ
 read_out ws out = kept (verdict (read_asks ws out)) (packet_found ws) out

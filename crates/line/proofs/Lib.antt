@@ -2,7 +2,6 @@ pub mod Edges
 pub mod Figures
 pub mod Order
 pub mod Polarity
-pub mod Ready
 pub mod Stores
 pub mod Whole
 pub mod Wire

@@ -4,11 +4,11 @@ use mathlib.Core.Bool.{Bool, true, false}
 use mathlib.Core.List.{List}
 use Prim.Native.Nat.{ℕ, zero, suc, ◌+◌, ◌*◌, ◌<◌}
 use native.Mathlib.Omega.{arith}
+use Rattle.std.specs.Prelude.{Ok}
 use Rattle.dvi.specs.Control.{level}
 use Rattle.hdmi.specs.Island.{island}
 use Rattle.hdmi.proofs.Once.{pair_once}
 use Rattle.hdmi.proofs.Period.{level_lt, pair_lt}
-use Rattle.refusal.specs.declared.Verdict.TheVariants.{Fine}
 use Rattle.refusal.specs.Verdict.{verdict}
 use Rattle.timing.specs.declared.DviTiming.{DviTiming}
 use Rattle.timing.specs.Sync.{level_of, positive, pair_for}
@@ -33,7 +33,7 @@ polarity_once (suc (suc p)) q on a b e = absurd (omega arith)
 polarity_once zero (suc (suc q)) on a b e = absurd (omega arith)
 polarity_once (suc zero) (suc (suc q)) on a b e = absurd (omega arith)
 
-module _ (t u : DviTiming) (okt : verdict (timing_asks t) ≡ Fine) (oku : verdict (timing_asks u) ≡ Fine) (h v : Bool) where
+module _ (t u : DviTiming) (okt : verdict (timing_asks t) ≡ Ok tt) (oku : verdict (timing_asks u) ≡ Ok tt) (h v : Bool) where
   pairs_lt : (x : DviTiming) → pair_for x h v < 4
   unfolding pair_for
   pairs_lt x = pair_lt (level_of (positive x.h_sync_polarity) h) (level_of (positive x.v_sync_polarity) v)

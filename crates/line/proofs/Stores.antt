@@ -1,13 +1,14 @@
 -- What the stores of each line make: with a line's elements spelled out, they compute to the definition.
-use mathlib.Core.Path.{◌≡◌, refl}
+use mathlib.Core.Path.{◌≡◌, refl, ap, ◌∙◌}
 use mathlib.Core.Bool.{Bool, true, false, not, cond}
 use mathlib.Core.List.{List, [], ◌∷◌, ◌++◌}
 use Prim.Native.Nat.{ℕ, zero, suc, ◌-◌, ◌<◌}
 use native.Mathlib.Omega.{arith}
 use lib.Dec.{eqb}
-use lib.ListN.{length, set, replicate}
+use lib.ListN.{length, get_or, set, replicate}
 use borrow.Author.Tests.{eq-eqb, lt-ltb}
 use borrow.Rule.Slice.PartMut.{put_mid}
+use Rattle.std.specs.Prelude.{Ok}
 use Rattle.laws.specs.Bit.{bit}
 use Rattle.laws.proofs.Spines.{spine, on_spine}
 use Rattle.hdmi.specs.Island.{guard_word, header_bit, subpacket_bit, data_word, island_word, island}
@@ -15,11 +16,11 @@ use Rattle.hdmi.specs.Terc4.{terc4}
 use Rattle.hdmi.specs.Period.{video_preamble, data_preamble, video_guard}
 use Rattle.hdmi.proofs.Island.{length-island}
 use Rattle.island.specs.Encode.{encode_asks}
-use Rattle.refusal.specs.declared.Verdict.TheVariants.{Fine}
 use Rattle.refusal.specs.Verdict.{verdict}
 use Rattle.timing.specs.declared.DviTiming.{DviTiming}
 use Rattle.timing.specs.Command.{Send, raw, repeat, commanded, repeat_word}
 use Rattle.timing.specs.Sync.{pair_for, sync_for}
+use Rattle.line.specs.declared.EmptyIsland.{EmptyIsland}
 use Rattle.line.specs.Line.{pulse_words, only_words, v_sync, lead, island_words, command_place, replaced, init_line, encode_line}
 use Rattle.line.specs.Words.{framed}
 
@@ -78,7 +79,7 @@ encode_made t s p l h =
     stored_around t s (island (pair_for t true (v_sync s)) p) (lead t s) l (length-island (pair_for t true (v_sync s)) p) (length-lead t s) h
 
 -- the island's writer has nothing to refuse here
-pub island_fine : (hv : ℕ) (p w : List ℕ) → hv < 4 → length p ≡ 36 → length w ≡ 36 → verdict (encode_asks hv p w) ≡ Fine
+pub island_fine : (hv : ℕ) (p w : List ℕ) → hv < 4 → length p ≡ 36 → length w ≡ 36 → verdict (encode_asks hv p w) ≡ Ok tt
 island_fine hv p w a b c = simp (eq-eqb (length p) 36 b, eq-eqb (length w) 36 c, lt-ltb hv 4 a)
 
 -- ---- an island of zeros
@@ -94,7 +95,22 @@ empty_by (suc (suc zero)) h = refl
 empty_by (suc (suc (suc zero))) h = refl
 empty_by (suc (suc (suc (suc hv)))) h = absurd (omega arith)
 
-pub empty_made : (hv guard first later : ℕ) → hv < 4 → guard ≡ guard_word hv → first ≡ data_word hv (replicate 36 0) 0
-    → later ≡ data_word hv (replicate 36 0) 1
-    → set (set (set (set (set (replicate 36 later) 0 guard) 1 guard) 2 first) 34 guard) 35 guard ≡ island hv (replicate 36 0)
-empty_made hv guard first later h g f l = rw (g, f, l) (empty_by hv h)
+-- by sync pair, the words of such an island
+abbrev of_zeros : ℕ → EmptyIsland
+of_zeros hv = record { guard = guard_word hv; first = data_word hv (replicate 36 0) 0; later = data_word hv (replicate 36 0) 1 }
+
+abbrev pub empties : List EmptyIsland
+empties = of_zeros 0 ∷ of_zeros 1 ∷ of_zeros 2 ∷ of_zeros 3 ∷ []
+
+empties_at : (hv : ℕ) (none : EmptyIsland) → hv < 4 → get_or empties hv none ≡ of_zeros hv
+empties_at zero none h = refl
+empties_at (suc zero) none h = refl
+empties_at (suc (suc zero)) none h = refl
+empties_at (suc (suc (suc zero))) none h = refl
+empties_at (suc (suc (suc (suc hv)))) none h = absurd (omega arith)
+
+abbrev empty_stored : EmptyIsland → List ℕ
+empty_stored e = set (set (set (set (set (replicate 36 e.later) 0 e.guard) 1 e.guard) 2 e.first) 34 e.guard) 35 e.guard
+
+pub empty_made : (hv : ℕ) (none : EmptyIsland) → hv < 4 → empty_stored (get_or empties hv none) ≡ island hv (replicate 36 0)
+empty_made hv none h = ap empty_stored (empties_at hv none h) ∙ empty_by hv h

@@ -5,14 +5,13 @@ use mathlib.Core.List.{List}
 use Prim.Native.Nat.{ℕ, ◌<◌}
 use lib.Dec.{ltb}
 use lib.ListN.{length, get_or, take, drop, replicate}
+use Rattle.std.specs.Prelude.{Ok}
 use Rattle.laws.proofs.Spines.{spine, on_spine, length_made}
 use Rattle.laws.proofs.Tables.{made_at}
 use Rattle.hdmi.specs.Island.{island}
 use Rattle.hdmi.proofs.Island.{length-island}
 use Rattle.refusal.specs.declared.Refusal.TheVariants.{Unlisted}
-use Rattle.refusal.specs.declared.Verdict.{Verdict}
-use Rattle.refusal.specs.declared.Verdict.TheVariants.{Fine}
-use Rattle.refusal.specs.Verdict.{verdict, kept}
+use Rattle.refusal.specs.Verdict.{verdict, kept, Verdict}
 use Rattle.timing.specs.declared.DviTiming.{DviTiming}
 use Rattle.timing.specs.Command.{commanded}
 use Rattle.timing.specs.Sync.{pair_for}
@@ -79,8 +78,8 @@ inited t l = kept (verdict (line_asks t (length l) 56)) (init_line t l) l
 abbrev pub encoded : DviTiming → ℕ → List ℕ → List ℕ → List ℕ
 encoded t s p l = kept (verdict (island_asks t (length l) (length p) s)) (encode_line t s p l) l
 
-module _ (t : DviTiming) (s : ℕ) (p : List ℕ) (packet : length p ≡ 36) (ok : verdict (island_asks t 56 36 s) ≡ Fine) where
-  fine_timing : verdict (timing_asks t) ≡ Fine
+module _ (t : DviTiming) (s : ℕ) (p : List ℕ) (packet : length p ≡ 36) (ok : verdict (island_asks t 56 36 s) ≡ Ok tt) where
+  fine_timing : verdict (timing_asks t) ≡ Ok tt
   fine_timing = (held (ltb s 4) Unlisted (timing_asks t) ok).1
 
   inited_is : (l : List ℕ) → length l ≡ 56 → inited t l ≡ init_line t l

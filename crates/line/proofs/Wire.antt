@@ -6,10 +6,10 @@ use Prim.Native.Nat.{ℕ, ◌+◌, ◌-◌, ◌≤◌, ◌<◌}
 use native.Mathlib.Omega.{arith}
 use lib.ListN.{length, replicate, length-append, length-replicate, replicate-append-replicate}
 use borrow.Author.Tests.{ne_eqb}
+use Rattle.std.specs.Prelude.{Ok}
 use Rattle.hdmi.specs.Island.{island}
 use Rattle.hdmi.specs.Period.{data_preamble}
 use Rattle.hdmi.proofs.Island.{length-island}
-use Rattle.refusal.specs.declared.Verdict.TheVariants.{Fine}
 use Rattle.refusal.specs.Verdict.{verdict}
 use Rattle.timing.specs.declared.DviTiming.{DviTiming}
 use Rattle.timing.specs.Command.{expand}
@@ -39,7 +39,7 @@ count {n} m e l u = record { least = omega arith; most = omega arith }
 wide : {low x : ℕ} → Within low x → 1 ≤ low → Within 1 x
 wide {low} {x} w h = let l = w.least in record { least = omega arith; most = w.most }
 
-module _ (t : DviTiming) (ok : verdict (timing_asks t) ≡ Fine) where
+module _ (t : DviTiming) (ok : verdict (timing_asks t) ≡ Ok tt) where
   -- front porch, sync, back porch
   pub pulse_wire : (v : Bool) → expand (pulse_words t v)
       ≡ replicate t.h_front_porch (sync_for t false v) ++ replicate t.h_sync_width (sync_for t true v) ++ replicate t.h_back_porch (sync_for t false v)

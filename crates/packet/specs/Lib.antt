@@ -1,2 +1,2 @@
 pub mod Asks
-pub mod Block
+pub mod AviFields

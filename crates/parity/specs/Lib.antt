@@ -1,3 +1,2 @@
 pub mod Seal
-pub mod Steps
 pub mod Word

@@ -1,68 +1,62 @@
 -- A packet laid down from its five words, whose parity bytes were found right: the words that are its island are an encoding.
-use mathlib.Core.Path.{◌≡◌, refl, sym, subst}
+use mathlib.Core.Path.{◌≡◌, refl}
 use mathlib.Core.Bool.{Bool, true, ◌&&◌}
-use mathlib.Core.List.{List, [], ◌++◌}
+use mathlib.Core.List.{List, [], ◌∷◌, ◌++◌}
 use Prim.Native.Nat.{ℕ, zero, suc, ◌/◌, ◌<◌}
 use native.Mathlib.Omega.{arith}
 use lib.Dec.{T}
-use lib.ListN.{get_or}
-use Rattle.laws.specs.Bytes.{low_first}
+use lib.ListN.{length, get_or}
+use Rattle.laws.specs.Bytes.{low_first, bytes_of}
 use Rattle.laws.proofs.Truth.{true_T, and_left, and_right}
 use Rattle.hdmi.specs.Island.{island}
 use Rattle.hdmi.specs.Packet.{subpacket, RightPacket}
 use Rattle.hdmi.specs.Parity.{right}
 use Rattle.island_reader.specs.Exact.{Encodes}
+use Rattle.quick_reader.specs.Laid.{laid, right_word, right_blocks}
 
-abbrev pub laid : ℕ → ℕ → ℕ → ℕ → ℕ → List ℕ
-laid h a b c d = low_first 4 h ++ (low_first 8 a ++ (low_first 8 b ++ (low_first 8 c ++ low_first 8 d)))
-
--- a list of bytes behind a word's
+-- a list of bytes behind a word's, and a list of words' bytes
 bytes_behind : (w x : ℕ) (l : List ℕ) → ((m : ℕ) → get_or l m 0 < 256) → (m : ℕ) → get_or (low_first w x ++ l) m 0 < 256
 bytes_behind zero x l h m = h m
 bytes_behind (suc w) x l h zero = omega arith
 bytes_behind (suc w) x l h (suc m) = bytes_behind w (x / 256) l h m
 
-none : (m : ℕ) → get_or [] m 0 < 256
-none m = omega arith
+all_bytes : (ws : List ℕ) (m : ℕ) → get_or (bytes_of 8 ws) m 0 < 256
+all_bytes [] m = omega arith
+all_bytes (x ∷ ws) m = bytes_behind 8 x (bytes_of 8 ws) (all_bytes ws) m
 
-module _ (h a b c d : ℕ) where
-  laid_bytes : (m : ℕ) → get_or (laid h a b c d) m 0 < 256
-  laid_bytes =
-      bytes_behind 4 h (low_first 8 a ++ (low_first 8 b ++ (low_first 8 c ++ low_first 8 d)))
-      (bytes_behind 8 a (low_first 8 b ++ (low_first 8 c ++ low_first 8 d))
-      (bytes_behind 8 b (low_first 8 c ++ low_first 8 d) (bytes_behind 8 c (low_first 8 d) (bytes_behind 8 d [] none))))
+pub laid_bytes : (h : ℕ) (ws : List ℕ) (m : ℕ) → get_or (laid h ws) m 0 < 256
+laid_bytes h ws = bytes_behind 4 h (bytes_of 8 ws) (all_bytes ws)
 
-  abbrev right_of : ℕ → Bool
-  right_of w = right 7 (low_first 8 w)
+-- of four words
+pub laid_right : (h : ℕ) (ws : List ℕ) → length ws ≡ 4 → right_blocks h ws ≡ true → RightPacket (laid h ws)
+laid_right h (a ∷ b ∷ c ∷ d ∷ []) n e = record { size = refl; right_header = and_left head (word 0) t2; right_subpacket = at }
+  where
+    head : Bool
+    head = right 3 (low_first 4 h)
 
-  abbrev right_header : Bool
-  right_header = right 3 (low_first 4 h)
+    word : ℕ → Bool
+    word s = right_word (a ∷ b ∷ c ∷ d ∷ []) s
 
-  pub laid_right : ((((right_header && right_of a) && right_of b) && right_of c) && right_of d) ≡ true → RightPacket (laid h a b c d)
-  laid_right e = record { size = refl; right_header = and_left right_header (right_of a) t2; right_subpacket = at }
-    where
-      t4 : T (((right_header && right_of a) && right_of b) && right_of c)
-      t4 = and_left (((right_header && right_of a) && right_of b) && right_of c) (right_of d) (true_T e)
+    t4 : T (((head && word 0) && word 1) && word 2)
+    t4 = and_left (((head && word 0) && word 1) && word 2) (word 3) (true_T e)
 
-      t3 : T ((right_header && right_of a) && right_of b)
-      t3 = and_left ((right_header && right_of a) && right_of b) (right_of c) t4
+    t3 : T ((head && word 0) && word 1)
+    t3 = and_left ((head && word 0) && word 1) (word 2) t4
 
-      t2 : T (right_header && right_of a)
-      t2 = and_left (right_header && right_of a) (right_of b) t3
+    t2 : T (head && word 0)
+    t2 = and_left (head && word 0) (word 1) t3
 
-      at : (s : ℕ) → s < 4 → T (right 7 (subpacket s (laid h a b c d)))
-      at zero l = and_right right_header (right_of a) t2
-      at (suc zero) l = and_right (right_header && right_of a) (right_of b) t3
-      at (suc (suc zero)) l = and_right ((right_header && right_of a) && right_of b) (right_of c) t4
-      at (suc (suc (suc zero))) l = and_right (((right_header && right_of a) && right_of b) && right_of c) (right_of d) (true_T e)
-      at (suc (suc (suc (suc s)))) l = absurd (omega arith)
+    at : (s : ℕ) → s < 4 → T (right 7 (subpacket s (laid h (a ∷ b ∷ c ∷ d ∷ []))))
+    at zero l = and_right head (word 0) t2
+    at (suc zero) l = and_right (head && word 0) (word 1) t3
+    at (suc (suc zero)) l = and_right ((head && word 0) && word 1) (word 2) t4
+    at (suc (suc (suc zero))) l = and_right (((head && word 0) && word 1) && word 2) (word 3) (true_T e)
+    at (suc (suc (suc (suc s)))) l = absurd (omega arith)
+laid_right h [] n e = absurd (omega arith)
+laid_right h (a ∷ []) n e = absurd (omega arith)
+laid_right h (a ∷ b ∷ []) n e = absurd (omega arith)
+laid_right h (a ∷ b ∷ c ∷ []) n e = absurd (omega arith)
+laid_right h (a ∷ b ∷ c ∷ d ∷ x ∷ ws) n e = absurd (omega arith)
 
-  pub encodes : (hv : ℕ) (p ws : List ℕ) → hv < 4 → ((((right_header && right_of a) && right_of b) && right_of c) && right_of d) ≡ true
-      → p ≡ laid h a b c d → ws ≡ island hv p → Encodes hv p ws
-  encodes hv p ws pair e l w =
-      record {
-        pair = pair;
-        right_packet = subst RightPacket (sym l) (laid_right e);
-        bytes = subst (λ (q : List ℕ). (m : ℕ) → get_or q m 0 < 256) (sym l) laid_bytes;
-        same = w;
-      }
+pub encodes : (hv h : ℕ) (ps ws : List ℕ) → hv < 4 → length ps ≡ 4 → right_blocks h ps ≡ true → ws ≡ island hv (laid h ps) → Encodes hv (laid h ps) ws
+encodes hv h ps ws pair n e same = record { pair = pair; right_packet = laid_right h ps n e; bytes = laid_bytes h ps; same = same }

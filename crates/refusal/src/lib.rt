@@ -1,12 +1,15 @@
-// The seventeen refusals, and the verdict that an entry passes on its arguments.
+// The seventeen refusals: what an entry answers where it refuses, with what it hands back.
 #![tactic(auto)]
 
 ghost use Rattle.std.specs.Prelude.{◌≡◌};
 ghost use Rattle.refusal.specs.Refusal.{number_of, place_of};
-ghost use Rattle.refusal.specs.Verdict.{verdict_number, verdict_place};
+ghost use Rattle.refusal.specs.Verdict.{verdict_number, verdict_place, handed_back};
+
+use std::error::Error;
+use std::fmt;
 
 // One variant for each number, in the table's order; with the place where the table has one.
-#[derive(Clone, Copy)]
+#[derive(Clone, Copy, Debug, PartialEq, Eq, Hash)]
 pub enum Refusal {
     // 1: a lent slice has the wrong length.
     Length,
@@ -70,7 +73,17 @@ impl Refusal {
         }
     }
 
-    // Where it was met: an index or a subpacket, and 0 where the table has no place.
+    // With what is handed back.
+    pub fn handing_back<T>(self, back: T) -> Refused<T>
+        ensures { result ≡ handed_back back self }
+    {
+        Refused {
+            refusal: self,
+            back,
+        }
+    }
+
+    // Where it was met: an index or a subpacket, and 0 where the table has no place; 0 and no None, since C's answer has a place in any case.
     pub fn place(self) -> usize
         ensures { result ≡ place_of self }
     {
@@ -81,45 +94,59 @@ impl Refusal {
             Refusal::NotTerc4(at) => at,
             Refusal::SyncBits(at) => at,
             Refusal::SubpacketParity(subpacket) => subpacket,
-            Refusal::Length => 0,
-            Refusal::Discrepancy => 0,
-            Refusal::SyncPair => 0,
-            Refusal::Unlisted => 0,
-            Refusal::FrameCount => 0,
-            Refusal::ClockValue => 0,
-            Refusal::TimingRange => 0,
-            Refusal::LineCounter => 0,
-            Refusal::LineOffset => 0,
-            Refusal::Unbalanced => 0,
-            Refusal::HeaderParity => 0,
+            Refusal::Length
+            | Refusal::Discrepancy
+            | Refusal::SyncPair
+            | Refusal::Unlisted
+            | Refusal::FrameCount
+            | Refusal::ClockValue
+            | Refusal::TimingRange
+            | Refusal::LineCounter
+            | Refusal::LineOffset
+            | Refusal::Unbalanced
+            | Refusal::HeaderParity => 0,
         }
     }
 }
 
-// What an entry thinks of its arguments before it writes anything; also the whole answer of an entry that returns no value.
-#[derive(Clone, Copy)]
-pub enum Verdict {
-    Fine,
-    Refused(Refusal),
-}
-
-impl Verdict {
-    // 0 for none.
-    pub fn number(self) -> u8
-        ensures { result ≡ verdict_number self }
-    {
-        match self {
-            Verdict::Fine => 0,
-            Verdict::Refused(r) => r.number(),
-        }
-    }
-
-    pub fn place(self) -> usize
-        ensures { result ≡ verdict_place self }
-    {
-        match self {
-            Verdict::Fine => 0,
-            Verdict::Refused(r) => r.place(),
-        }
+// The table's number and place of what an entry answers: 0 and 0 where nothing is refused, as C has them.
+pub fn verdict_number(verdict: Result<(), Refusal>) -> u8
+    ensures { result ≡ verdict_number verdict }
+{
+    match verdict {
+        Ok(()) => 0,
+        Err(refusal) => refusal.number(),
     }
 }
+
+pub fn verdict_place(verdict: Result<(), Refusal>) -> usize
+    ensures { result ≡ verdict_place verdict }
+{
+    match verdict {
+        Ok(()) => 0,
+        Err(refusal) => refusal.place(),
+    }
+}
+
+// A refusal, and what the caller lent by value: a discrepancy, a frame count or a line counter, handed back as it came.
+#[derive(Clone, Copy, Debug, PartialEq, Eq, Hash)]
+pub struct Refused<T> {
+    pub refusal: Refusal,
+    pub back: T,
+}
+
+impl<T: Drop> From<Refused<T>> for Refusal {
+    ghost from_gives = { λ r e. e ≡ r.refusal };
+
+    fn from(r: Refused<T>) -> Refusal {
+        r.refusal
+    }
+}
+
+impl fmt::Display for Refusal {
+    fn fmt<W: fmt::Write>(&self, f: &mut fmt::Formatter<W>) -> fmt::Result {
+        write!(f, "refusal {} at {}", self.number(), self.place())
+    }
+}
+
+impl Error for Refusal {}

@@ -1,147 +1,155 @@
 // Cases of timing.rs: whether ours answers what stands in the case. A case of another length agrees with nothing. A timing is 18 bytes.
-ghost use Rattle.std.specs.Prelude.{◌+◌, ◌*◌, ◌≤◌, length};
+ghost use Rattle.std.specs.Prelude.{◌+◌, ◌<◌};
 
-use crate::numbers::{four, same_words, two};
-use counter::{Advanced, DviTimingState, Scanline, VState};
-use refusal::Verdict;
-use timing::{DviTiming, SyncWord, VGA_TIMING};
+use crate::numbers::written;
+use counter::DviTimingState;
+use symbol::Tmds3;
+use timing::{DviTiming, VGA_TIMING};
 
-// No answer depends on the bit clock.
-fn timing(c: &[u8]) -> DviTiming
-    requires { 18 ≤ length c.now }
+// The number in the two bytes from there.
+fn two(t: &[u8; 18], at: usize) -> u32
+    requires { at + 1 < 18 }
 {
+    u32::from(u16::from_be_bytes([t[at], t[at + 1]]))
+}
+
+// No answer depends on the bit clock. A function: neither type is of this crate, so there is no `From`.
+fn timing(t: &[u8; 18]) -> DviTiming {
     DviTiming {
-        h_sync_polarity: c[0],
-        h_front_porch: two(c, 1) as u32,
-        h_sync_width: two(c, 3) as u32,
-        h_back_porch: two(c, 5) as u32,
-        h_active_pixels: two(c, 7) as u32,
-        v_sync_polarity: c[9],
-        v_front_porch: two(c, 10) as u32,
-        v_sync_width: two(c, 12) as u32,
-        v_back_porch: two(c, 14) as u32,
-        v_active_lines: two(c, 16) as u32,
+        h_sync_polarity: t[0],
+        h_front_porch: two(t, 1),
+        h_sync_width: two(t, 3),
+        h_back_porch: two(t, 5),
+        h_active_pixels: two(t, 7),
+        v_sync_polarity: t[9],
+        v_front_porch: two(t, 10),
+        v_sync_width: two(t, 12),
+        v_back_porch: two(t, 14),
+        v_active_lines: two(t, 16),
         bit_clk: 0,
     }
 }
 
 pub fn vga(c: &[u8]) -> bool {
-    if c.len() != 22 {
+    let Some((t, rest)) = c.split_first_chunk::<18>() else {
         return false;
-    }
-    let t = timing(c);
-    let bit_clk = four(c, 18);
-    (t.h_sync_polarity == VGA_TIMING.h_sync_polarity)
-        & (t.h_front_porch == VGA_TIMING.h_front_porch)
-        & (t.h_sync_width == VGA_TIMING.h_sync_width)
-        & (t.h_back_porch == VGA_TIMING.h_back_porch)
-        & (t.h_active_pixels == VGA_TIMING.h_active_pixels)
-        & (t.v_sync_polarity == VGA_TIMING.v_sync_polarity)
-        & (t.v_front_porch == VGA_TIMING.v_front_porch)
-        & (t.v_sync_width == VGA_TIMING.v_sync_width)
-        & (t.v_back_porch == VGA_TIMING.v_back_porch)
-        & (t.v_active_lines == VGA_TIMING.v_active_lines)
-        & (bit_clk == VGA_TIMING.bit_clk)
+    };
+    let Some(bit_clk) = rest.as_array::<4>() else {
+        return false;
+    };
+    VGA_TIMING
+        == DviTiming {
+            bit_clk: u32::from_be_bytes(*bit_clk),
+            ..timing(t)
+        }
 }
 
 pub fn sync(c: &[u8]) -> bool {
-    if c.len() != 24 {
-        return false;
-    }
-    let SyncWord::Word(w) = timing(c).tmds3_for_sync(c[18] == 1, c[19] == 1) else {
+    let Some((t, rest)) = c.split_first_chunk::<18>() else {
         return false;
     };
-    w.0 == four(c, 20)
-}
-
-// Whether nothing was refused, and the words are these.
-fn made(v: Verdict, words: &[u32], c: &[u8], at: usize) -> bool
-    requires { at + 4 * length words.now ≤ length c.now }
-{
-    if v.number() != 0 {
+    let Some(([h_sync, v_sync], word)) = rest.split_last_chunk::<4>() else {
         return false;
-    }
-    same_words(c, at, words)
+    };
+    timing(t).tmds3_for_sync(*h_sync == 1, *v_sync == 1) == Ok(Tmds3(u32::from_be_bytes(*word)))
 }
 
 pub fn pulse(c: &[u8]) -> bool {
-    if c.len() != 79 {
+    let Some((t, [v_sync, known @ ..])) = c.split_first_chunk::<18>() else {
         return false;
-    }
-    let mut words = [0u32; 15];
-    let v = line::make_sync_pulse(timing(c), c[18] == 1, &mut words);
-    made(v, &words, c, 19)
+    };
+    written([0u32; 15], known, |words| {
+        line::make_sync_pulse(timing(t), *v_sync == 1, words)
+    })
 }
 
 pub fn only(c: &[u8]) -> bool {
-    if c.len() != 63 {
+    let Some((t, [v_sync, known @ ..])) = c.split_first_chunk::<18>() else {
         return false;
-    }
-    let mut words = [0u32; 11];
-    let v = line::make_sync_line_only(timing(c), c[18] == 1, &mut words);
-    made(v, &words, c, 19)
+    };
+    written([0u32; 11], known, |words| {
+        line::make_sync_line_only(timing(t), *v_sync == 1, words)
+    })
 }
 
 // All 56 words lent as one word, of which six are written.
 pub fn init(c: &[u8]) -> bool {
-    if c.len() != 246 {
+    let Some((t, rest)) = c.split_first_chunk::<18>() else {
         return false;
-    }
-    let mut words = [four(c, 18); 56];
-    let v = line::init_data_island(timing(c), &mut words);
-    made(v, &words, c, 22)
+    };
+    let Some((old, known)) = rest.split_first_chunk::<4>() else {
+        return false;
+    };
+    written([u32::from_be_bytes(*old); 56], known, |words| {
+        line::init_data_island(timing(t), words)
+    })
 }
 
 // The six words first, then the other fifty.
 pub fn island_line(c: &[u8]) -> bool {
-    if c.len() != 279 {
+    let Some((t, [state, rest @ ..])) = c.split_first_chunk::<18>() else {
         return false;
-    }
-    let mut words = [0u32; 56];
-    let v = line::init_data_island(timing(c), &mut words);
-    let w = line::encode_data_island(timing(c), &mut words, c[18], &c[19..55]);
-    (v.number() == 0) & made(w, &words, c, 55)
+    };
+    let Some((packet, known)) = rest.split_first_chunk::<36>() else {
+        return false;
+    };
+    written([0u32; 56], known, |words| {
+        line::init_data_island(timing(t), words)?;
+        line::encode_data_island(timing(t), words, *state, packet)
+    })
 }
 
 pub fn empty_line(c: &[u8]) -> bool {
-    if c.len() != 243 {
+    let Some((t, [state, known @ ..])) = c.split_first_chunk::<18>() else {
         return false;
-    }
-    let mut words = [0u32; 56];
-    let v = line::init_data_island(timing(c), &mut words);
-    let w = line::encode_data_island_empty(timing(c), &mut words, c[18]);
-    (v.number() == 0) & made(w, &words, c, 19)
+    };
+    written([0u32; 56], known, |words| {
+        line::init_data_island(timing(t), words)?;
+        line::encode_data_island_empty(timing(t), words, *state)
+    })
 }
 
 pub fn advance(c: &[u8]) -> bool {
-    if c.len() != 26 {
-        return false;
-    }
-    let Advanced::Next(s) = DviTimingState::new(four(c, 18)).advance(timing(c)) else {
+    let Some((t, rest)) = c.split_first_chunk::<18>() else {
         return false;
     };
-    s.v_ctr == four(c, 22)
+    let ([at, next], []) = rest.as_chunks::<4>() else {
+        return false;
+    };
+    let state = DviTimingState::new(u32::from_be_bytes(*at));
+    state.advance(timing(t)) == Ok(DviTimingState::new(u32::from_be_bytes(*next)))
 }
 
 pub fn state(c: &[u8]) -> bool {
-    if c.len() != 23 {
-        return false;
-    }
-    let VState::State(s) = DviTimingState::new(four(c, 18)).v_state(timing(c)) else {
+    let Some((t, rest)) = c.split_first_chunk::<18>() else {
         return false;
     };
-    s.number() == c[22]
+    let Some((at, [known])) = rest.split_first_chunk::<4>() else {
+        return false;
+    };
+    let state = DviTimingState::new(u32::from_be_bytes(*at)).v_state(timing(t));
+    state.is_ok_and(|s| s.number() == *known)
 }
 
 // After the counter and the offset: 1 and the row, or 0 and 0.
 pub fn scanline(c: &[u8]) -> bool {
-    if c.len() != 31 {
+    let Some((t, rest)) = c.split_first_chunk::<18>() else {
         return false;
-    }
-    let s = DviTimingState::new(four(c, 18)).v_scanline_index(timing(c), four(c, 22));
-    match s {
-        Scanline::Row(y) => (c[26] == 1) & (y == four(c, 27)),
-        Scanline::NoRow => (c[26] == 0) & (0 == four(c, 27)),
-        Scanline::Refused(_, _) => false,
-    }
+    };
+    let Some((at, rest)) = rest.split_first_chunk::<4>() else {
+        return false;
+    };
+    let Some((offset, rest)) = rest.split_first_chunk::<4>() else {
+        return false;
+    };
+    let Some(([some], row)) = rest.split_last_chunk::<4>() else {
+        return false;
+    };
+    let known = match (*some, u32::from_be_bytes(*row)) {
+        (1, row) => Some(row),
+        (0, 0) => None,
+        _ => return false,
+    };
+    let state = DviTimingState::new(u32::from_be_bytes(*at));
+    state.v_scanline_index(timing(t), u32::from_be_bytes(*offset)) == Ok(known)
 }

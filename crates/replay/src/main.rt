@@ -1,260 +1,126 @@
 // The original's answers on standard input, one case a line, each computed anew: how many of each kind agree, and where the first that differs stands.
 #![tactic(auto)]
 
+mod kinds;
 mod lines;
 mod numbers;
 mod packets;
 mod symbols;
 mod text;
 
-ghost use Rattle.std.specs.Prelude.{◌≡◌, ◌<◌, length};
+ghost use Rattle.std.specs.Prelude.{◌≡◌, length};
 ghost use Rattle.std.specs.Io.{ReadsAtMost};
 
+use kinds::{KINDS, Kind};
 use std::io;
 use std::io::{Print, Read};
 
-// How many kinds there are: their names stand in `main`, in the order of `agrees`.
-const KINDS: usize = 24;
-
-// Whether ours answers what stands in a case of this kind.
-fn agrees(kind: usize, c: &[u8]) -> bool {
-    match kind {
-        0 => symbols::symbol(c),
-        1 => symbols::control(c),
-        2 => symbols::joined(c),
-        3 => symbols::pair(c),
-        4 => symbols::balanced(c),
-        5 => symbols::approx(c),
-        6 => symbols::row(c),
-        7 => packets::parity(c),
-        8 => packets::terc4(c),
-        9 => packets::audio(c),
-        10 => packets::clock(c),
-        11 => packets::audio_info(c),
-        12 => packets::avi(c),
-        13 => packets::island(c),
-        14 => lines::vga(c),
-        15 => lines::sync(c),
-        16 => lines::pulse(c),
-        17 => lines::only(c),
-        18 => lines::init(c),
-        19 => lines::island_line(c),
-        20 => lines::empty_line(c),
-        21 => lines::advance(c),
-        22 => lines::state(c),
-        23 => lines::scanline(c),
-        _ => false,
-    }
+// How many cases of a kind agree, and how many don't.
+#[derive(Clone, Copy, Debug, PartialEq, Eq)]
+struct Count {
+    agree: u64,
+    differ: u64,
 }
 
-#[derive(Clone, Copy)]
-enum Outcome {
-    Agrees,
-    Differs,
-    // What follows the kind isn't bytes.
-    Malformed,
-}
-
-// Room for the bytes of a case.
-fn case_room() -> [u8; 4096]
-    ensures { 4096 ≡ length result }
-{
-    [0; 4096]
-}
-
-fn judged(kind: usize, spelled: &[u8]) -> Outcome {
-    let mut room = case_room();
-    let s = text::read_hex(spelled, &mut room);
-    if !s.whole {
-        return Outcome::Malformed;
-    }
-    let n = s.count;
-    if agrees(kind, &room[..n]) {
-        Outcome::Agrees
-    } else {
-        Outcome::Differs
-    }
-}
-
-// Of each kind two counts stand side by side: the cases that agree, and those that differ.
-fn counted(counts: &[u64; 48], at: usize) -> u64
-    requires { at < 48 }
-{
-    counts[at]
-}
-
-fn count(counts: &mut [u64; 48], at: usize)
-    requires { at < 48 }
-{
-    counts[at] = std::num::wrapping_add_u64(counts[at], 1);
-}
-
-fn say(rt: &impl Print, words: &[u8]) -> io::Result<()> {
-    rt.write_all(words)
-}
-
-fn say_number(rt: &impl Print, n: u64) -> io::Result<()> {
-    print!(rt; "{n}")
-}
-
-fn say_line(rt: &impl Print, number: u64, kind: &[u8], what: &[u8]) -> io::Result<()> {
-    say(rt, b"line ")?;
-    say_number(rt, number)?;
-    say(rt, b": ")?;
-    say(rt, kind)?;
-    say(rt, what)
-}
-
-// Whether the case agrees. One that doesn't is said where it is the first of its kind or can't be read.
-fn case(
-    rt: &impl Print,
-    kinds: &[u8],
-    line: &[u8],
-    number: u64,
-    counts: &mut [u64; 48],
-) -> io::Result<bool> {
-    let end = text::find(line, 0, b' ');
-    let kind = text::place(kinds, &line[0..end]);
-    if KINDS <= kind {
-        say_line(rt, number, &line[0..end], b" is no kind of case\n")?;
-        return Ok(false);
-    }
-    let outcome = judged(kind, &line[end..]);
-    match outcome {
-        Outcome::Agrees => {
-            count(counts, 2 * kind);
-            Ok(true)
-        }
-        Outcome::Differs => {
-            if counted(counts, 2 * kind + 1) == 0 {
-                say_line(
-                    rt,
-                    number,
-                    &line[0..end],
-                    b" differs, the first of its kind\n",
-                )?;
-            }
-            count(counts, 2 * kind + 1);
-            Ok(false)
-        }
-        Outcome::Malformed => {
-            say_line(rt, number, &line[0..end], b" is malformed\n")?;
-            count(counts, 2 * kind + 1);
-            Ok(false)
-        }
-    }
-}
-
-#[derive(Clone, Copy)]
-struct Totals {
+// What was counted so far.
+#[derive(Drop)]
+struct Tally {
+    kinds: [Count; 24],
     cases: u64,
     different: u64,
 }
 
-fn is_comment(line: &[u8]) -> bool {
-    if line.len() == 0 {
-        false
-    } else {
-        line[0] == b'#'
+impl Tally {
+    fn new() -> Tally {
+        Tally {
+            kinds: [Count {
+                agree: 0,
+                differ: 0,
+            }; 24],
+            cases: 0,
+            different: 0,
+        }
+    }
+
+    fn agreed(&mut self, kind: Kind) {
+        let count = &mut self.kinds[kind as usize];
+        count.agree = count.agree.wrapping_add(1);
+        self.cases = self.cases.wrapping_add(1);
+    }
+
+    fn differed(&mut self, kind: Kind) {
+        let count = &mut self.kinds[kind as usize];
+        count.differ = count.differ.wrapping_add(1);
+        self.unread();
+    }
+
+    // A case of no kind.
+    fn unread(&mut self) {
+        self.cases = self.cases.wrapping_add(1);
+        self.different = self.different.wrapping_add(1);
     }
 }
 
-fn line_done(
-    rt: &impl Print,
-    kinds: &[u8],
-    line: &[u8],
-    number: u64,
-    totals: Totals,
-    counts: &mut [u64; 48],
-) -> io::Result<Totals> {
-    if is_comment(line) {
-        return Ok(totals);
-    }
-    let more = if case(rt, kinds, line, number, counts)? {
-        0
-    } else {
-        1
+// Says of a line, by its number and its kind.
+fn say_line(rt: &impl Print, number: u64, kind: &[u8], what: &str) -> io::Result<()> {
+    print!(rt; "line {number}: ")?;
+    rt.write_all(kind)?;
+    println!(rt; " {what}")
+}
+
+// One case. One that doesn't agree is said where it is the first of its kind or can't be read.
+fn case(rt: &impl Print, number: u64, line: &[u8], tally: &mut Tally) -> io::Result<()> {
+    let end = line.iter().position(|b| *b == b' ').unwrap_or(line.len());
+    let (name, spelled) = line.split_at(end);
+    let Some(kind) = Kind::named(name) else {
+        tally.unread();
+        return say_line(rt, number, name, "is no kind of case");
     };
-    Ok(Totals {
-        cases: std::num::wrapping_add_u64(totals.cases, 1),
-        different: std::num::wrapping_add_u64(totals.different, more),
-    })
-}
-
-fn replay(
-    rt: &impl Print,
-    kinds: &[u8],
-    list: &[u8],
-    counts: &mut [u64; 48],
-) -> io::Result<Totals> {
-    let mut totals = Totals {
-        cases: 0,
-        different: 0,
+    let Some(bytes) = text::read_hex(spelled) else {
+        tally.differed(kind);
+        return say_line(rt, number, name, "is malformed");
     };
-    let mut number = 0u64;
-    let mut at = 0;
-    while at < list.len() {
-        let end = text::find(list, at, b'\n');
-        number = std::num::wrapping_add_u64(number, 1);
-        totals = line_done(rt, kinds, &list[at..end], number, totals, counts)?;
-        at = text::after(list, end);
+    if kind.agrees(bytes.as_slice()) {
+        tally.agreed(kind);
+        return Ok(());
     }
-    Ok(totals)
-}
-
-fn say_kind(rt: &impl Print, name: &[u8], agreed: u64, different: u64) -> io::Result<()> {
-    say(rt, name)?;
-    say(rt, b": ")?;
-    say_number(rt, agreed)?;
-    say(rt, b" agree")?;
-    if different != 0 {
-        say(rt, b", ")?;
-        say_number(rt, different)?;
-        say(rt, b" differ")?;
-    }
-    say(rt, b"\n")
-}
-
-fn say_kinds(rt: &impl Print, kinds: &[u8], counts: &[u64; 48]) -> io::Result<()> {
-    let mut k = 0;
-    let mut at = 0;
-    while k < KINDS {
-        let end = text::find(kinds, at, b' ');
-        say_kind(
-            rt,
-            &kinds[at..end],
-            counted(counts, 2 * k),
-            counted(counts, 2 * k + 1),
-        )?;
-        at = text::after(kinds, end);
-        k += 1;
+    let first = tally.kinds[kind as usize].differ == 0;
+    tally.differed(kind);
+    if first {
+        return say_line(rt, number, name, "differs, the first of its kind");
     }
     Ok(())
 }
 
-fn say_totals(rt: &impl Print, totals: Totals) -> io::Result<()> {
-    say(rt, b"replay: ")?;
-    say_number(rt, totals.cases)?;
-    say(rt, b" cases, ")?;
-    say_number(rt, totals.different)?;
-    say(rt, b" different\n")
+// Each line but the comments.
+fn replay(rt: &impl Print, list: &[u8], tally: &mut Tally) -> io::Result<()> {
+    let mut number = 0u64;
+    for ended in list.split_inclusive(|b| *b == b'\n') {
+        number = number.wrapping_add(1);
+        let line = ended.strip_suffix(b"\n").unwrap_or(ended);
+        if line.first() != Some(&b'#') {
+            case(rt, number, line, tally)?;
+        }
+    }
+    Ok(())
 }
 
-fn replay_all(rt: &impl Print, kinds: &[u8], list: &[u8]) -> io::Result<()> {
-    let mut counts = [0u64; 48];
-    let totals = replay(rt, kinds, list, &mut counts)?;
-    say_kinds(rt, kinds, &counts)?;
-    say_totals(rt, totals)
-}
-
-// Room for the whole list.
-fn list_room() -> [u8; 262144]
-    ensures { 262144 ≡ length result }
-{
-    [0; 262144]
+fn say_tally(rt: &impl Print, tally: &Tally) -> io::Result<()> {
+    for (kind, count) in KINDS.iter().zip(&tally.kinds) {
+        print!(rt; "{}: {} agree", kind.name(), count.agree)?;
+        if count.differ != 0 {
+            print!(rt; ", {} differ", count.differ)?;
+        }
+        println!(rt)?;
+    }
+    println!(rt;
+        "replay: {} cases, {} different",
+        tally.cases, tally.different
+    )
 }
 
 // Reads until the room is full or the input ends, and returns how many bytes came.
+// A loop over `read`: `read_exact` doesn't say how much came of an input shorter than the room, and `read_to_end` needs a `Vec`, which is on the heap.
 fn read_full(input: &mut impl Read, room: &mut [u8]) -> io::Result<usize>
     ensures { ReadsAtMost result room.new }
 {
@@ -270,14 +136,13 @@ fn read_full(input: &mut impl Read, room: &mut [u8]) -> io::Result<usize>
 }
 
 fn main(rt: HostRuntime) -> io::Result<()> {
-    let mut room = list_room();
+    let mut room = [0u8; 262144];
     let n = read_full(&mut rt.stdin(), &mut room)?;
     if n == room.len() {
-        return say(&rt, b"replay: the list is too long\n");
+        println!(rt; "replay: the list is too long")?;
+        return Ok(());
     }
-    replay_all(
-        &rt,
-        b"symbol control joined pair balanced approx row parity terc4 audio clock audio_info avi island vga sync pulse only init island_line empty_line advance state scanline",
-        &room[..n],
-    )
+    let mut tally = Tally::new();
+    replay(&rt, &room[..n], &mut tally)?;
+    say_tally(&rt, &tally)
 }

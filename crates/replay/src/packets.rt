@@ -1,128 +1,99 @@
 // Cases of data_island.rs: whether ours answers what stands in the case. A case of another length agrees with nothing.
-ghost use Rattle.std.specs.Prelude.{◌≤◌, length};
-
-use crate::numbers::{counted, four, same_words, signed_two, two, wide};
-use crate::text::same;
-use audio::FrameCount;
-use refusal::Verdict;
-use terc4::Terc4;
+use crate::numbers::written;
+use refusal::Refusal;
+use symbol::TmdsSymbol;
 
 pub fn parity(c: &[u8]) -> bool {
-    if c.len() == 0 {
+    let [block @ .., known] = c else {
         return false;
-    }
-    let n = c.len() - 1;
-    parity::compute_bch(&c[0..n]) == c[n]
+    };
+    parity::compute_bch(block) == *known
 }
 
 pub fn terc4(c: &[u8]) -> bool {
-    if c.len() != 3 {
-        return false;
-    }
-    let Terc4::Symbol(s) = terc4::symbol(c[0]) else {
+    let [value, high, low] = *c else {
         return false;
     };
-    s.0 == two(c, 1)
+    terc4::symbol(value) == Ok(TmdsSymbol(u16::from_be_bytes([high, low])))
 }
 
 // The packets are lent with other bytes in them, since ours fixes all 36.
-fn old_packet() -> [u8; 36] {
-    [0xee; 36]
-}
+const OLD_PACKET: [u8; 36] = [0xee; 36];
 
-// Sample i of a case, 0 where there is none.
-fn sample(c: &[u8], i: usize) -> i16
-    requires { i ≤ 7 }
-{
-    let at = 2 * i + 1;
-    if at + 1 < c.len() {
-        signed_two(two(c, at))
-    } else {
-        0
-    }
-}
-
-fn samples(c: &[u8]) -> [i16; 8] {
-    [
-        sample(c, 0),
-        sample(c, 1),
-        sample(c, 2),
-        sample(c, 3),
-        sample(c, 4),
-        sample(c, 5),
-        sample(c, 6),
-        sample(c, 7),
-    ]
-}
-
-// The count, two bytes for each sample, the packet and the count after it.
+// The count, two bytes for each of at most eight samples, the packet and the count after it.
 pub fn audio(c: &[u8]) -> bool {
-    if c.len() < 38 {
-        return false;
-    }
-    let n = (c.len() - 38) / 2;
-    if n > 8 {
-        return false;
-    }
-    if c.len() != 2 * n + 38 {
-        return false;
-    }
-    let mut packet = old_packet();
-    let all = samples(c);
-    let FrameCount::Next(next) = audio::set_audio(&mut packet, &all[0..n], counted(c[0])) else {
+    let [count, rest @ .., after] = c else {
         return false;
     };
-    let at = 2 * n + 1;
-    let end = at + 36;
-    same(&c[at..end], &packet) & (next == counted(c[end]))
+    let Some((sampled, known)) = rest.split_last_chunk::<36>() else {
+        return false;
+    };
+    let (pairs, odd) = sampled.as_chunks::<2>();
+    if pairs.len() > 8 || !odd.is_empty() {
+        return false;
+    }
+    let mut samples = [0i16; 8];
+    for (sample, pair) in samples.iter_mut().zip(pairs) {
+        *sample = i16::from_be_bytes(*pair);
+    }
+    let mut packet = OLD_PACKET;
+    let next = audio::set_audio(&mut packet, &samples[..pairs.len()], i32::from(*count));
+    packet == *known && next == Ok(i32::from(*after))
 }
 
-// Whether nothing was refused, and the packet is this.
-fn made(v: Verdict, packet: &[u8], known: &[u8]) -> bool {
-    (v.number() == 0) & same(packet, known)
+// Whether the packet is made without refusal, and is then this.
+fn packet_is<F: FnOnce(&mut [u8]) -> Result<(), Refusal>>(known: &[u8], make: F) -> bool
+    requires { F.IsAlwaysCallable make }
+{
+    let mut packet = OLD_PACKET;
+    make(&mut packet).is_ok() && packet.as_slice() == known
 }
 
 pub fn clock(c: &[u8]) -> bool {
-    if c.len() != 44 {
+    let Some((cts, rest)) = c.split_first_chunk::<4>() else {
         return false;
-    }
-    let mut packet = old_packet();
-    let v = clock::set_audio_clock_regeneration(&mut packet, four(c, 0), four(c, 4));
-    made(v, &packet, &c[8..44])
+    };
+    let Some((n, known)) = rest.split_first_chunk::<4>() else {
+        return false;
+    };
+    packet_is(known, |packet| {
+        clock::set_audio_clock_regeneration(
+            packet,
+            u32::from_be_bytes(*cts),
+            u32::from_be_bytes(*n),
+        )
+    })
 }
 
 pub fn audio_info(c: &[u8]) -> bool {
-    if c.len() != 40 {
+    let Some((rate, known)) = c.split_first_chunk::<4>() else {
         return false;
-    }
-    let mut packet = old_packet();
-    let v = packet::set_audio_info_frame(&mut packet, four(c, 0));
-    made(v, &packet, &c[4..40])
+    };
+    packet_is(known, |packet| {
+        packet::set_audio_info_frame(packet, u32::from_be_bytes(*rate))
+    })
 }
 
 pub fn avi(c: &[u8]) -> bool {
-    if c.len() != 43 {
+    let Some((fields, known)) = c.split_first_chunk::<7>() else {
         return false;
-    }
-    let mut packet = old_packet();
-    let v = packet::set_avi_info_frame(
-        &mut packet,
-        wide(c[0]),
-        wide(c[1]),
-        wide(c[2]),
-        wide(c[3]),
-        wide(c[4]),
-        wide(c[5]),
-        wide(c[6]),
-    );
-    made(v, &packet, &c[7..43])
+    };
+    let [s, y, c, m, r, q, v] = fields.map(u32::from);
+    packet_is(known, |packet| {
+        packet::set_avi_info_frame(packet, s, y, c, m, r, q, v)
+    })
 }
 
 pub fn island(c: &[u8]) -> bool {
-    if c.len() != 181 {
+    let [hv, rest @ ..] = c else {
         return false;
-    }
-    let mut words = [0u32; 36];
-    let v = island::encode(c[0], &c[1..37], &mut words);
-    (v.number() == 0) & same_words(c, 37, &words)
+    };
+    let Some((packet, known)) = rest.split_first_chunk::<36>() else {
+        return false;
+    };
+    written(
+        [0u32; 36],
+        known,
+        |words| island::encode(*hv, packet, words),
+    )
 }

@@ -3,77 +3,119 @@
 
 mod tables;
 
-ghost use Rattle.std.specs.Prelude.{◌≡◌, ◌+◌, ◌*◌, ◌<◌, ◌≤◌, T, length};
-ghost use Rattle.std.proofs.lemmas.List.Edits.{sets};
-ghost use Rattle.laws.specs.Bytes.{low_first, bytes_of};
-ghost use Rattle.laws.proofs.Tables.{made};
+ghost use Rattle.std.specs.Prelude.{◌≡◌, ℕ, ◌+◌, ◌*◌, ◌≤◌, List, [], ◌∷◌, ◌++◌, T, length, take};
+ghost use Rattle.laws.specs.Bytes.{bytes_of};
 ghost use Rattle.dvi.specs.Symbol.{in_range};
 ghost use Rattle.dvi.specs.Row.{row_symbols, row_end};
-ghost use Rattle.refusal.specs.Verdict.{verdict};
 ghost use Rattle.charts.specs.Word.{unbiased, held, Field, Step, half, word_of};
-ghost use Rattle.row.specs.Answer.{lengths_fit, encode_row_asks, encode_row_of, encode_row_out};
+ghost use Rattle.row.specs.Answer.{lengths_fit, row_accepted, encode_row_of, encode_row_out};
+ghost use Rattle.row.specs.Store.{StoreLaws, words_laws, bytes_laws};
 ghost use Rattle.row.specs.Wire.{encode_bytes_of, encode_bytes_out};
 
-use refusal::{Refusal, Verdict};
+use refusal::{Refusal, Refused};
 use tables::WORDS;
 
-// One step along a row: the symbol that goes out, and what holds the discrepancy after it.
+fn word_of(byte: u8) -> u32
+    ensures { result ≡ word_of byte }
+{
+    WORDS[byte as usize]
+}
+
+// A lane where it stands: its discrepancy counted from -15, in the low five bits. `symbol::Lane` computes each step; this one goes by the table.
 #[derive(Clone, Copy)]
-struct Stepped {
-    symbol: u16,
+struct Lane {
     state: u32,
+    ghost field: { Field state },
 }
 
-// The word's half for the side of 0 on which the lane stands: no jump, which would be missed half the time.
-fn half_of(x: u32, word: u32) -> u32
-    ensures { result ≡ half x word }
-{
-    word >> (std::num::wrapping_add_u32(x, word / 0x80000000) / 16 % 2 * 16)
+impl Lane {
+    fn at(discrepancy: i32) -> Lane
+        requires { T (in_range discrepancy) }
+        ensures { unbiased (held result.state) ≡ discrepancy }
+    {
+        Lane {
+            state: (discrepancy + 15) as u32,
+        }
+    }
+
+    fn discrepancy(self) -> i32
+        ensures { result ≡ unbiased (held self.state) }
+    {
+        ((self.state % 32) as i32) - 15
+    }
+
+    // The word's half for the side of 0 on which the lane stands: no jump, which would be missed half the time.
+    fn half_of(self, word: u32) -> u32
+        ensures { result ≡ half self.state word }
+    {
+        word >> (self.state.wrapping_add(word / 0x80000000) / 16 % 2 * 16)
+    }
+
+    // One step along a row: the symbol that goes out.
+    fn send(&mut self, byte: u8) -> u16
+        ensures { Step (unbiased (held self.old.state)) byte result self.new.state }
+    {
+        let half = self.half_of(word_of(byte));
+        let symbol = (half % 1024) as u16;
+        self.state = self.state.wrapping_add(half / 1024);
+        symbol
+    }
 }
 
-fn step(words: &[u32; 256], x: u32, byte: u8) -> Stepped
-    requires { (words.now ≡ made word_of 0 256) × Field x }
-    ensures { Step (unbiased (held x)) byte result.symbol result.state }
-{
-    let y = half_of(x, words[byte as usize]);
-    Stepped {
-        symbol: (y % 1024) as u16,
-        state: std::num::wrapping_add_u32(x, y / 1024),
+// What a row's symbols stand in: words, or bytes, two for each symbol and the low one first.
+trait Store: Copy {
+    ghost width: { ℕ };
+
+    ghost stored: { List ℕ → List Self };
+
+    ghost laws: { StoreLaws stored };
+
+    // Symbol i, after those before it.
+    fn put(out: &mut [Self], i: u32, symbol: u16)
+        requires { width * (i + 1) ≤ length out.old }
+        ensures { take (width * (i + 1)) out.new ≡ take (width * i) out.old ++ stored (symbol ∷ []) };
+}
+
+impl Store for u16 {
+    ghost width = { 1 };
+
+    ghost stored = { λ ss. ss };
+
+    ghost laws = { words_laws };
+
+    fn put(out: &mut [u16], i: u32, symbol: u16) {
+        out[i as usize] = symbol;
+    }
+}
+
+impl Store for u8 {
+    ghost width = { 2 };
+
+    ghost stored = { bytes_of 2 };
+
+    ghost laws = { bytes_laws };
+
+    // Not by `copy_from_slice`, which asks whether the two overlap: an M33 takes 21.8 instructions a byte of a row then, and so 10.3.
+    fn put(out: &mut [u8], i: u32, symbol: u16) {
+        let at = 2 * (i as usize);
+        let [low, high] = symbol.to_le_bytes();
+        out[at] = low;
+        out[at + 1] = high;
     }
 }
 
 // The whole row. It counts in 32 bits: a board's registers have no more.
-fn fill(words: &[u32; 256], bytes: &[u8], start: u32, out: &mut [u16]) -> u32
-    requires { (words.now ≡ made word_of 0 256) × Field start × (length bytes.now ≤ 4096) × (length out.old ≡ length bytes.now) }
-    ensures field { Field result × (unbiased (held result) ≡ row_end (unbiased (held start)) bytes.now) }
-    ensures out_after { out.new ≡ row_symbols (unbiased (held start)) bytes.now }
+fn fill<S: Store>(mut lane: Lane, bytes: &[u8], out: &mut [S]) -> Lane
+    requires short { length bytes.now ≤ 4096 }
+    requires room { length out.old ≡ S.width * length bytes.now }
+    ensures end { unbiased (held result.state) ≡ row_end (unbiased (held lane.state)) bytes.now }
+    ensures out_after { out.new ≡ S.stored (row_symbols (unbiased (held lane.state)) bytes.now) }
 {
-    let n = bytes.len() as u32;
-    let mut i: u32 = 0;
-    let mut x = start;
-    while i < n {
-        let s = step(words, x, bytes[i as usize]);
-        out[i as usize] = s.symbol;
-        x = s.state;
-        i += 1;
+    for i in 0..bytes.len() as u32 {
+        let symbol = lane.send(bytes[i as usize]);
+        S::put(out, i, symbol);
     }
-    x
-}
-
-// The discrepancy counted from -15, with which a row begins.
-fn begun(discrepancy: i32) -> u32
-    requires { T (in_range discrepancy) }
-    ensures { Field result × (unbiased (held result) ≡ discrepancy) }
-{
-    (discrepancy + 15) as u32
-}
-
-// The discrepancy that is held.
-fn ended(x: u32) -> i32
-    requires { Field x }
-    ensures { result ≡ unbiased (held x) }
-{
-    ((x % 32) as i32) - 15
+    lane
 }
 
 // A row is at most 4,096 long, and the buffer as long as the row.
@@ -83,82 +125,35 @@ pub fn lengths_fit(row: usize, room: usize) -> bool
     (row <= 4096) & (room == row)
 }
 
-fn encode_verdict(discrepancy: i32, row: usize, room: usize) -> Verdict
-    ensures { result ≡ verdict (encode_row_asks discrepancy row room) }
+fn accept(discrepancy: i32, row: usize, room: usize) -> Result<(), Refused<i32>>
+    ensures { result ≡ row_accepted discrepancy row room }
 {
     if !lengths_fit(row, room) {
-        return Verdict::Refused(Refusal::Length);
+        return Err(Refusal::Length.handing_back(discrepancy));
     }
     if !symbol::in_range(discrepancy) {
-        return Verdict::Refused(Refusal::Discrepancy);
+        return Err(Refusal::Discrepancy.handing_back(discrepancy));
     }
-    Verdict::Fine
-}
-
-#[derive(Clone, Copy)]
-pub enum RowEncoded {
-    // The discrepancy after the row, with which the next piece begins.
-    Done(i32),
-    // The refusal, and the discrepancy as it came.
-    Refused(Refusal, i32),
+    Ok(())
 }
 
 // The symbols of a row of bytes, or of a piece of one, on a lane that stands at this discrepancy.
-pub fn encode_row(discrepancy: i32, bytes: &[u8], out: &mut [u16]) -> RowEncoded
+pub fn encode_row(discrepancy: i32, bytes: &[u8], out: &mut [u16]) -> Result<i32, Refused<i32>>
     ensures answer { result ≡ encode_row_of discrepancy bytes.now (length out.old) }
     ensures symbols { out.new ≡ encode_row_out discrepancy bytes.now out.old }
 {
-    let v = encode_verdict(discrepancy, bytes.len(), out.len());
-    match v {
-        Verdict::Refused(r) => RowEncoded::Refused(r, discrepancy),
-        Verdict::Fine => {
-            let x = fill(&WORDS, bytes, begun(discrepancy), out);
-            RowEncoded::Done(ended(x))
-        }
-    }
+    accept(discrepancy, bytes.len(), out.len())?;
+    Ok(fill(Lane::at(discrepancy), bytes, out).discrepancy())
 }
 
-// ---- the same rows in bytes alone, a symbol as two, low byte first: stored as they come, with no second buffer
-fn put(out: &mut [u8], at: usize, symbol: u16)
-    requires { at + 1 < length out.old }
-    ensures { out.new ≡ sets out.old at (low_first 2 symbol) }
-{
-    out[at] = (symbol % 256) as u8;
-    out[at + 1] = (symbol / 256 % 256) as u8;
-}
-
-// The whole row.
-fn fill_stored(words: &[u32; 256], bytes: &[u8], start: u32, out: &mut [u8]) -> u32
-    requires { (words.now ≡ made word_of 0 256) × Field start × (length bytes.now ≤ 4096) × (length out.old ≡ 2 * length bytes.now) }
-    ensures field { Field result × (unbiased (held result) ≡ row_end (unbiased (held start)) bytes.now) }
-    ensures out_after { out.new ≡ bytes_of 2 (row_symbols (unbiased (held start)) bytes.now) }
-{
-    let n = bytes.len() as u32;
-    let mut i: u32 = 0;
-    let mut x = start;
-    while i < n {
-        let s = step(words, x, bytes[i as usize]);
-        put(out, 2 * (i as usize), s.symbol);
-        x = s.state;
-        i += 1;
-    }
-    x
-}
-
-// The symbols of a row of bytes, or of a piece of one, two bytes each.
-pub fn encode_row_bytes(discrepancy: i32, bytes: &[u8], out: &mut [u8]) -> RowEncoded
+// The same in bytes alone, stored as they come, with no second buffer.
+pub fn encode_row_bytes(discrepancy: i32, bytes: &[u8], out: &mut [u8]) -> Result<i32, Refused<i32>>
     ensures answer { result ≡ encode_bytes_of discrepancy bytes.now (length out.old) }
     ensures symbols { out.new ≡ encode_bytes_out discrepancy bytes.now out.old }
 {
     if out.len() % 2 != 0 {
-        return RowEncoded::Refused(Refusal::Length, discrepancy);
+        return Err(Refusal::Length.handing_back(discrepancy));
     }
-    let v = encode_verdict(discrepancy, bytes.len(), out.len() / 2);
-    match v {
-        Verdict::Refused(r) => RowEncoded::Refused(r, discrepancy),
-        Verdict::Fine => {
-            let last = fill_stored(&WORDS, bytes, begun(discrepancy), out);
-            RowEncoded::Done(ended(last))
-        }
-    }
+    accept(discrepancy, bytes.len(), out.len() / 2)?;
+    Ok(fill(Lane::at(discrepancy), bytes, out).discrepancy())
 }

@@ -1,6 +1,6 @@
 // The encoder's words, one for each byte: two symbols, what each adds to the discrepancy, and with which of them 0 goes. Their rule stands in
 // crates/charts (`word_of`), and is computed at every place there.
-pub const WORDS: [u32; 256] = [
+pub static WORDS: [u32; 256] = [
     0xf10017ff, 0x770011ff, 0x7b010dfe, 0xf50113fe, 0x7f0309fc, 0xf9030ffc, 0xf50213fd, 0x7b020dfd,
     0x030705f8, 0xfd070bf8, 0xf9060ff9, 0x7f0609f9, 0xf50413fb, 0x7b040dfb, 0x7f0509fa, 0xf9050ffa,
     0x01f001f0, 0x010f010f, 0xfd0e0bf1, 0x030e05f1, 0xf90c0ff3, 0x7f0c09f3, 0x030d05f2, 0xfd0d0bf2,

@@ -8,13 +8,12 @@ use borrow.Author.Tests.{le-leb, eq-eqb}
 use lib.Dec.{T}
 use lib.IntN.{ℤ, pos, ◌*ℤ◌}
 use lib.ListN.{length, take, drop}
+use Rattle.std.specs.Prelude.{Ok}
 use Rattle.laws.specs.Bytes.{Bytes}
 use Rattle.laws.proofs.Truth.{T_true}
 use Rattle.dvi.specs.Row.{dvi_row, dvi_cnt, row_symbols, row_end, row_ones}
 use Rattle.dvi.specs.Symbol.{in_range}
-use Rattle.refusal.specs.declared.Verdict.TheVariants.{Fine}
 use Rattle.refusal.specs.Verdict.{verdict}
-use Rattle.row.specs.declared.RowEncoded.TheVariants.{Done}
 use Rattle.row.specs.Answer.{lengths_fit, encode_row_asks, encode_row_of, encode_row_out}
 use Rattle.row_reader.specs.Answer.{read_row_asks, read_row_out}
 use Rattle.row_pieces.specs.Calls.{Piece, joined, Each}
@@ -27,13 +26,13 @@ use Rattle.row_pieces.proofs.Calls.{AllData, none_bad, Form}
 lengths_fit_lem : (p : Piece) → Fits p → lengths_fit (length p.part) (length p.room) ≡ true
 lengths_fit_lem p f = simp (le-leb _ _ f.short, eq-eqb _ _ f.same)
 
-nothing_refused : (d : ℤ) (p : Piece) → T (in_range d) → Fits p → verdict (encode_row_asks d (length p.part) (length p.room)) ≡ Fine
+nothing_refused : (d : ℤ) (p : Piece) → T (in_range d) → Fits p → verdict (encode_row_asks d (length p.part) (length p.room)) ≡ Ok tt
 nothing_refused d p h f = simp (lengths_fit_lem p f, T_true {b = in_range d} h)
 
-nothing_refused_reading : (p : Piece) → Fits p → AllData p.part → verdict (read_row_asks p.part (length p.room)) ≡ Fine
+nothing_refused_reading : (p : Piece) → Fits p → AllData p.part → verdict (read_row_asks p.part (length p.room)) ≡ Ok tt
 nothing_refused_reading p f a = simp (lengths_fit_lem p f, eq-eqb _ _ (none_bad p.part a))
 
-one_end : (d : ℤ) (p : Piece) (e f : ℤ) → encode_row_of d p.part (length p.room) ≡ Done e → encode_row_of d p.part (length p.room) ≡ Done f → e ≡ f
+one_end : (d : ℤ) (p : Piece) (e f : ℤ) → encode_row_of d p.part (length p.room) ≡ Ok e → encode_row_of d p.part (length p.room) ≡ Ok f → e ≡ f
 one_end d p e f a b = cc
 
 abbrev symbols : Form
@@ -45,13 +44,13 @@ symbols = record {
   held_none = refl;
   held_stored = λ d bs h b. refl;
   FitsOut = Fits;
-  Encodes = λ d p e. encode_row_of d p.part (length p.room) ≡ Done e;
+  Encodes = λ d p e. encode_row_of d p.part (length p.room) ≡ Ok e;
   writes = λ d p. encode_row_out d p.part p.room;
   encodes = λ d p h f. rw (nothing_refused d p h f);
   written = λ d p h f. rw (nothing_refused d p h f);
   one_end = one_end;
   FitsIn = Fits;
-  Reads = λ q. verdict (read_row_asks q.part (length q.room)) ≡ Fine;
+  Reads = λ q. verdict (read_row_asks q.part (length q.room)) ≡ Ok tt;
   gives = λ q. read_row_out q.part q.room;
   held_joined = λ q f ys. refl;
   reads = nothing_refused_reading;

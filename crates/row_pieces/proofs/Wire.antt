@@ -9,15 +9,14 @@ use borrow.Author.Tests.{le-leb, eq-eqb}
 use lib.Dec.{T, eqb}
 use lib.IntN.{ℤ, pos, ◌*ℤ◌}
 use lib.ListN.{length, take, drop, length-append}
+use Rattle.std.specs.Prelude.{Ok}
 use Rattle.laws.specs.Bytes.{Bytes, bytes_of, numbers_of}
 use Rattle.laws.proofs.Bytes.{Fit, bytes_append, numbers_append, length_bytes, length_numbers, written_read}
 use Rattle.laws.proofs.Truth.{T_true}
 use Rattle.dvi.specs.Row.{dvi_row, dvi_cnt, row_symbols, row_end, row_ones}
 use Rattle.dvi.specs.Symbol.{in_range, next_of}
 use Rattle.dvi.proofs.Symbols.{symbol_small, stays}
-use Rattle.refusal.specs.declared.Verdict.TheVariants.{Fine}
 use Rattle.refusal.specs.Verdict.{verdict}
-use Rattle.row.specs.declared.RowEncoded.TheVariants.{Done}
 use Rattle.row.specs.Answer.{lengths_fit}
 use Rattle.row.specs.Wire.{encode_bytes_asks, encode_bytes_of, encode_bytes_out}
 use Rattle.row_reader.specs.Wire.{symbols_in, read_bytes_asks, read_bytes_out}
@@ -63,7 +62,7 @@ module _ (d : ℤ) (p : Piece) (h : T (in_range d)) (f : FitsOut p) where
   fit_out : lengths_fit (length p.part) (length p.room / 2) ≡ true
   fit_out = simp (le-leb _ _ f.short, eq-eqb _ _ (half_double (length p.room) (length p.part) f.twice))
 
-  pub nothing_refused : verdict (encode_bytes_asks d (length p.part) (length p.room)) ≡ Fine
+  pub nothing_refused : verdict (encode_bytes_asks d (length p.part) (length p.room)) ≡ Ok tt
   nothing_refused = simp (even_double (length p.room) (length p.part) f.twice, fit_out, T_true {b = in_range d} h)
 
 module _ (q : Piece) (f : FitsIn q) (a : AllData (symbols_in q.part)) where
@@ -73,11 +72,11 @@ module _ (q : Piece) (f : FitsIn q) (a : AllData (symbols_in q.part)) where
   fit_in : lengths_fit (length (symbols_in q.part)) (length q.room) ≡ true
   fit_in = rw long_in (simp (le-leb _ _ f.short, eq-eqb (length q.room) (length q.room) refl))
 
-  pub nothing_refused_reading : verdict (read_bytes_asks q.part (length q.room)) ≡ Fine
+  pub nothing_refused_reading : verdict (read_bytes_asks q.part (length q.room)) ≡ Ok tt
   nothing_refused_reading =
       rw (even_double (length q.part) (length q.room) f.twice, fit_in, eq-eqb _ _ (none_bad (symbols_in q.part) a)) refl
 
-pub one_end : (d : ℤ) (p : Piece) (e f : ℤ) → encode_bytes_of d p.part (length p.room) ≡ Done e → encode_bytes_of d p.part (length p.room) ≡ Done f → e ≡ f
+pub one_end : (d : ℤ) (p : Piece) (e f : ℤ) → encode_bytes_of d p.part (length p.room) ≡ Ok e → encode_bytes_of d p.part (length p.room) ≡ Ok f → e ≡ f
 one_end d p e f a b = cc
 
 abbrev pub bytes : Form
@@ -89,13 +88,13 @@ bytes = record {
   held_none = refl;
   held_stored = held_symbols;
   FitsOut = FitsOut;
-  Encodes = λ d p e. encode_bytes_of d p.part (length p.room) ≡ Done e;
+  Encodes = λ d p e. encode_bytes_of d p.part (length p.room) ≡ Ok e;
   writes = λ d p. encode_bytes_out d p.part p.room;
   encodes = λ d p h f. rw (nothing_refused d p h f);
   written = λ d p h f. rw (nothing_refused d p h f);
   one_end = one_end;
   FitsIn = FitsIn;
-  Reads = λ q. verdict (read_bytes_asks q.part (length q.room)) ≡ Fine;
+  Reads = λ q. verdict (read_bytes_asks q.part (length q.room)) ≡ Ok tt;
   gives = λ q. read_bytes_out q.part q.room;
   held_joined = symbols_cut;
   reads = nothing_refused_reading;

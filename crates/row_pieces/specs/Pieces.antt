@@ -1,9 +1,7 @@
 -- A row that goes in pieces, in calls of the two entries one after the other: each call of the encoder with the discrepancy that the last one
 -- returned. The reader hands nothing on.
-use Rattle.std.specs.Prelude.{List, ◌≡◌, ℕ, ◌≤◌, ℤ, length}
-use Rattle.refusal.specs.declared.Verdict.TheVariants.{Fine}
+use Rattle.std.specs.Prelude.{List, ◌≡◌, ℕ, ◌≤◌, ℤ, length, Ok}
 use Rattle.refusal.specs.Verdict.{verdict}
-use Rattle.row.specs.declared.RowEncoded.TheVariants.{Done}
 use Rattle.row.specs.Answer.{encode_row_of, encode_row_out}
 use Rattle.row_reader.specs.Answer.{read_row_asks, read_row_out}
 use Rattle.row_pieces.specs.Calls.{Piece, Calls}
@@ -15,8 +13,8 @@ pub record Fits (p : Piece) : Type 0 where
 
 -- `Encoded d ps ss e`: from d on every call was answered, the buffers joined hold ss, and the last call returned e
 abbrev pub Encoded : ℤ → List Piece → List ℕ → ℤ → Type 0
-Encoded = Calls (λ d p e. encode_row_of d p.part (length p.room) ≡ Done e) (λ d p. encode_row_out d p.part p.room)
+Encoded = Calls (λ d p e. encode_row_of d p.part (length p.room) ≡ Ok e) (λ d p. encode_row_out d p.part p.room)
 
 -- `Read ps bs`: every call of the reader was answered, and the buffers joined hold bs
 abbrev pub Read : List Piece → List ℕ → Type 0
-Read ps bs = Calls {S = Unit {0}} (λ _ p _. verdict (read_row_asks p.part (length p.room)) ≡ Fine) (λ _ p. read_row_out p.part p.room) tt ps bs tt
+Read ps bs = Calls {S = Unit {0}} (λ _ p _. verdict (read_row_asks p.part (length p.room)) ≡ Ok tt) (λ _ p. read_row_out p.part p.room) tt ps bs tt

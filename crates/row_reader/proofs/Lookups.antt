@@ -9,17 +9,17 @@ use native.Mathlib.Numerals.{add-one}
 use native.Mathlib.Omega.{arith}
 use borrow.Author.Tests.{le-ltb, lt-ltb, not-false}
 use lib.Bits.{bit_or, bit_and, or_shr, or_mod, or_add_and, and_mod, and_le_l, and_le_r}
-use lib.Dec.{ltb, eqb}
+use lib.Dec.{ltb, eqb, eqb→eq}
 use lib.ListN.{length, take, drop, get_or, set, drop_of_length-le}
 use lib.Seq.{drop-cons, take-suc-set, take_all}
 use Rattle.laws.specs.Search.{first}
-use Rattle.laws.proofs.Truth.{true_T}
-use Rattle.laws.proofs.Searching.{before, go_on}
+use Rattle.laws.proofs.Truth.{true_T, and_left, and_right}
+use Rattle.laws.proofs.Searching.{before, stop, go_on, end}
 use Rattle.dvi.specs.Decoder.{byte_of, is_data}
 use Rattle.dvi.specs.Plain.{flag}
 use Rattle.dvi.specs.Row.{row_bytes}
 use Rattle.dvi.proofs.Decoding.{is_small}
-use Rattle.row_reader.specs.Along.{DataTo}
+use Rattle.row_reader.specs.Along.{DataTo, Unpacked}
 use Rattle.row_reader.specs.Answer.{first_bad}
 
 flag_true : (t : Bool) → flag t ≡ 1 → t ≡ true
@@ -89,15 +89,23 @@ module _ (ss : List ℕ) (k above all w a b : ℕ) (e : w % 65536 ≡ get_or ss 
   one_of_lem j l t x y (no u) (yes v) = let same : j ≡ 2 * k = omega (arith, u, v) in ap (λ (i : ℕ). is_data (get_or ss i 0)) same ∙ x
   one_of_lem j l t x y (no u) (no v) = let same : j ≡ 2 * k + 1 = omega (arith, l, u, v) in ap (λ (i : ℕ). is_data (get_or ss i 0)) same ∙ y
 
-  pub told_more : Told ss above all (2 * k) → Told ss (bit_or above w) (bit_and (bit_and all a) b) (2 * (k + 1))
+  pub told_more : Told ss above all (2 * k) → Told ss (bit_or above w) (bit_and all (bit_and a b)) (2 * (k + 1))
   told_more t h i o j l =
       let h' : bit_or (above / 1024 % 64) (w / 1024 % 64) ≡ 0 = sym (or_mod (above / 1024) (w / 1024) 6) ∙ ap (λ (x : ℕ). x % 64) (sym (or_shr above w 10)) ∙ h in
       let i' : bit_or (above / 67108864) (w / 67108864) ≡ 0 = sym (or_shr above w 26) ∙ i in
       let hh = or_none (above / 1024 % 64) (w / 1024 % 64) h' in
       let ii = or_none (above / 67108864) (w / 67108864) i' in
-      let oo = and_odd (bit_and all a) b o in
-      let pp = and_odd all a oo.0 in
-      one_of_lem j l (t hh.0 ii.0 pp.0) (first_data hh.1 pp.1) (second_data ii.1 oo.1) (dec_lt j (2 * k)) (dec_lt j (2 * k + 1))
+      let pp = and_odd all (bit_and a b) o in
+      let oo = and_odd a b pp.1 in
+      one_of_lem j l (t hh.0 ii.0 pp.0) (first_data hh.1 oo.0) (second_data ii.1 oo.1) (dec_lt j (2 * k)) (dec_lt j (2 * k + 1))
+
+-- told at the end, by one test
+pub all_told : (ss : List ℕ) (above all n : ℕ) → (eqb (above / 1024 % 64) 0 && eqb (above / 67108864) 0 && eqb (all % 2) 1) ≡ true → Told ss above all n → DataTo ss n
+all_told ss above all n e t =
+    let p = true_T e in
+    let q = and_left (eqb (above / 1024 % 64) 0 && eqb (above / 67108864) 0) (eqb (all % 2) 1) p in
+    t (eqb→eq _ _ (and_left (eqb (above / 1024 % 64) 0) (eqb (above / 67108864) 0) q)) (eqb→eq _ _ (and_right (eqb (above / 1024 % 64) 0) (eqb (above / 67108864) 0) q))
+    (eqb→eq _ _ (and_right (eqb (above / 1024 % 64) 0 && eqb (above / 67108864) 0) (eqb (all % 2) 1) p))
 
 -- ---- scans
 
@@ -110,6 +118,21 @@ passed ss (suc i) n h t =
     let g : not (is_data (get_or ss i 0)) ≡ false = simp (t i (omega arith)) in
     rw add-one at (r ∙ go_on (λ i. not (is_data (get_or ss i 0))) i n l g)
 
+-- one more
+more_by : (ss : List ℕ) (n j : ℕ) → DataTo ss n → is_data (get_or ss n 0) ≡ true → j < n + 1 → Dec (j < n) → is_data (get_or ss j 0) ≡ true
+more_by ss n j t e l (yes u) = t j u
+more_by ss n j t e l (no u) = let same : j ≡ n = omega (arith, l, u) in ap (λ (i : ℕ). is_data (get_or ss i 0)) same ∙ e
+
+pub data_more : (ss : List ℕ) (n : ℕ) → DataTo ss n → is_data (get_or ss n 0) ≡ true → DataTo ss (n + 1)
+data_more ss n t e j l = more_by ss n j t e l (dec_lt j n)
+
+-- so a row's verdict is the first that is none, or none at all
+pub refused_at : (ss : List ℕ) (i : ℕ) → i < length ss → DataTo ss i → is_data (get_or ss i 0) ≡ false → first_bad ss ≡ i
+refused_at ss i h t e = passed ss i (length ss) (omega arith) t ∙ stop (λ i. not (is_data (get_or ss i 0))) i (length ss) h (simp e)
+
+pub all_data : (ss : List ℕ) → DataTo ss (length ss) → first_bad ss ≡ length ss
+all_data ss t = passed ss (length ss) (length ss) (omega arith) t ∙ end (λ i. not (is_data (get_or ss i 0))) (length ss) (length ss) (omega arith)
+
 -- a row that was scanned to its end is all data symbols
 pub scanned : (ss : List ℕ) → first_bad ss ≡ length ss → DataTo ss (length ss)
 scanned ss e i h =
@@ -121,10 +144,6 @@ scanned ss e i h =
 -- the first symbol of a pair, by its low ten bits
 pub first_low : (w s : ℕ) → w % 65536 ≡ s → is_data s ≡ true → w % 1024 ≡ s
 first_low w s e d = let l = data_short s d in omega (arith, e, l)
-
--- the bytes of the first i, and those that the symbols left will give, are the whole row's
-pub record Unpacked (ss out : List ℕ) (i : ℕ) : Type 0 where
-  pub row : take i out ++ row_bytes (drop i ss) ≡ row_bytes ss
 
 pub unpacked_none : (ss out : List ℕ) → Unpacked ss out 0
 unpacked_none ss out = record { row = refl }

@@ -11,13 +11,13 @@ use borrow.Author.Tests.{eq-eqb, ne_eqb, not-true, not-false}
 use lib.Dec.{T, eqb, eqb→eq}
 use lib.IntN.{ℤ}
 use lib.ListN.{length, get_or}
+use Rattle.std.specs.Prelude.{Ok, Err}
 use Rattle.laws.proofs.Searching.{before, found, none}
 use Rattle.laws.proofs.Truth.{T_true, true_T}
 use Rattle.dvi.specs.Decoder.{byte_of, is_data}
 use Rattle.dvi.specs.Symbol.{Encodes, DataSymbol}
 use Rattle.dvi.proofs.Decoding.{test_data, data_test, not_data}
 use Rattle.refusal.specs.declared.Refusal.TheVariants.{Length, NotData}
-use Rattle.refusal.specs.declared.Verdict.TheVariants.{Fine, Refused}
 use Rattle.refusal.specs.Verdict.{verdict, unless}
 use Rattle.refusal.proofs.Verdicts.{holds_first, fine_rest}
 use Rattle.row.specs.Answer.{lengths_fit}
@@ -38,13 +38,13 @@ module _ (ss : List ℕ) where
       not_data (not-true (is_data (get_or ss (first_bad ss) 0)) (found (λ i. not (is_data (get_or ss i 0))) 0 (length ss) (rw zero-add h)))
 
   -- so a row is answered exactly when its lengths fit and each symbol is a data symbol
-  pub answered_reads : (room : ℕ) → verdict (read_row_asks ss room) ≡ Fine → (i : ℕ) → i < length ss → (d : ℤ) × Encodes (get_or ss i 0) (byte_of (get_or ss i 0)) d
+  pub answered_reads : (room : ℕ) → verdict (read_row_asks ss room) ≡ Ok tt → (i : ℕ) → i < length ss → (d : ℤ) × Encodes (get_or ss i 0) (byte_of (get_or ss i 0)) d
   answered_reads room h i l =
-      let u = fine_rest (lengths_fit (length ss) room) Length (unless (eqb (first_bad ss) (length ss)) (NotData (first_bad ss)) Fine) h in
-      let e = eqb→eq (first_bad ss) (length ss) (holds_first (eqb (first_bad ss) (length ss)) (NotData (first_bad ss)) Fine u) in
+      let u = fine_rest (lengths_fit (length ss) room) Length (unless (eqb (first_bad ss) (length ss)) (NotData (first_bad ss)) (Ok tt)) h in
+      let e = eqb→eq (first_bad ss) (length ss) (holds_first (eqb (first_bad ss) (length ss)) (NotData (first_bad ss)) (Ok tt) u) in
       data_before_bad i (rw e l)
 
-  pub data_answered : (room : ℕ) → T (lengths_fit (length ss) room) → ((i : ℕ) → i < length ss → DataSymbol (get_or ss i 0)) → verdict (read_row_asks ss room) ≡ Fine
+  pub data_answered : (room : ℕ) → T (lengths_fit (length ss) room) → ((i : ℕ) → i < length ss → DataSymbol (get_or ss i 0)) → verdict (read_row_asks ss room) ≡ Ok tt
   data_answered room t f =
       let passed : (i : ℕ) → 0 ≤ i → i < 0 + length ss → not (is_data (get_or ss i 0)) ≡ false =
       λ i l u. simp (T_true {b = is_data (get_or ss i 0)} (data_test (f i (omega arith)))) in
@@ -53,7 +53,7 @@ module _ (ss : List ℕ) where
 
   -- where one is none, the refusal names the first
   pub none_refused : (room : ℕ) → T (lengths_fit (length ss) room) → (i : ℕ) → i < length ss → (DataSymbol (get_or ss i 0) → ⊥)
-      → (verdict (read_row_asks ss room) ≡ Refused (NotData (first_bad ss))) × (first_bad ss ≤ i)
+      → (verdict (read_row_asks ss room) ≡ Err (NotData (first_bad ss))) × (first_bad ss ≤ i)
   none_refused room t i l n =
       let le : first_bad ss ≤ i = not-later i l n in
       let ne : first_bad ss ≡ length ss → ⊥ = λ e. omega arith in

@@ -1,5 +1,5 @@
 // The numbers of ten bits that are data symbols, a bit for each, 32 to a word. The rule stands in crates/charts (`map_of`).
-pub const DATA: [u32; 32] = [
+pub static DATA: [u32; 32] = [
     0x930b7bff, // from 0x000
     0xe983800b, // from 0x020
     0x8000800b, // from 0x040

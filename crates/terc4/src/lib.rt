@@ -1,22 +1,22 @@
-// TERC4, the code of data islands: four bits in a symbol, and back; and the tables that the island's writer and reader are lent.
+// TERC4, the code of data islands: four bits in a symbol, and back.
 #![tactic(auto)]
 
 ghost use Rattle.std.specs.Prelude.{◌≡◌};
 ghost use Rattle.laws.proofs.Tables.{made};
 ghost use Rattle.hdmi.specs.Terc4.{terc4, terc4_number};
-ghost use Rattle.terc4.specs.Terc4.{symbol_answer, read_answer};
+ghost use Rattle.terc4.specs.Terc4.{symbol_answer, number_answer, read_answer};
 
 use refusal::Refusal;
 use symbol::TmdsSymbol;
 
 // The sixteen symbols, by their number.
-const SYMBOLS: [u16; 16] = [
+static SYMBOLS: [u16; 16] = [
     0x29c, 0x263, 0x2e4, 0x2e2, 0x171, 0x11e, 0x18e, 0x13c, 0x2cc, 0x139, 0x19c, 0x2c6, 0x28e,
     0x271, 0x163, 0x2c3,
 ];
 
-// The number of each symbol of ten bits, and 16 for none.
-const NUMBERS: [u8; 1024] = [
+// The number of each symbol of ten bits, and 16 for none, as `terc4_number` says it; `number` takes it for an Option.
+static NUMBERS: [u8; 1024] = [
     16, 16, 16, 16, 16, 16, 16, 16, 16, 16, 16, 16, 16, 16, 16, 16, 16, 16, 16, 16, 16, 16, 16, 16,
     16, 16, 16, 16, 16, 16, 16, 16, 16, 16, 16, 16, 16, 16, 16, 16, 16, 16, 16, 16, 16, 16, 16, 16,
     16, 16, 16, 16, 16, 16, 16, 16, 16, 16, 16, 16, 16, 16, 16, 16, 16, 16, 16, 16, 16, 16, 16, 16,
@@ -62,53 +62,39 @@ const NUMBERS: [u8; 1024] = [
     16, 16, 16, 16, 16, 16, 16, 16, 16, 16, 16, 16, 16, 16, 16, 16,
 ];
 
-#[derive(Clone, Copy)]
-pub enum Terc4 {
-    Symbol(TmdsSymbol),
-    Refused(Refusal),
-}
-
-#[derive(Clone, Copy)]
-pub enum Terc4Number {
-    Number(u8),
-    Refused(Refusal),
-}
-
-// The tables, to be lent to a loop.
-pub fn symbols() -> [u16; 16]
-    ensures { result ≡ made terc4 0 16 }
+// The sixteen symbols.
+pub fn symbols() -> &'static [u16; 16]
+    ensures { result.now ≡ made terc4 0 16 }
 {
-    SYMBOLS
+    &SYMBOLS
 }
 
-pub fn numbers() -> [u8; 1024]
-    ensures { result ≡ made terc4_number 0 1024 }
+// The number of each symbol of ten bits, and 16 for none.
+pub fn numbers() -> &'static [u8; 1024]
+    ensures { result.now ≡ made terc4_number 0 1024 }
 {
-    NUMBERS
+    &NUMBERS
 }
 
 // TERC4 of a number.
-pub fn symbol(n: u8) -> Terc4
+pub fn symbol(n: u8) -> Result<TmdsSymbol, Refusal>
     ensures { result ≡ symbol_answer n }
 {
-    if 16 <= n {
-        return Terc4::Refused(Refusal::Unlisted);
-    }
-    Terc4::Symbol(TmdsSymbol(SYMBOLS[n as usize]))
+    let symbol = symbols().get(n as usize).ok_or(Refusal::Unlisted)?;
+    Ok(TmdsSymbol(*symbol))
+}
+
+// The number of a symbol, where it is one of the sixteen.
+pub fn number(symbol: TmdsSymbol) -> Option<u8>
+    ensures { result ≡ number_answer symbol.0 }
+{
+    let n = *numbers().get(symbol.0 as usize)?;
+    (n < 16).then_some(n)
 }
 
 // The number of a TERC4 symbol.
-pub fn read(symbol: TmdsSymbol) -> Terc4Number
+pub fn read(symbol: TmdsSymbol) -> Result<u8, Refusal>
     ensures { result ≡ read_answer symbol.0 }
 {
-    let x = symbol.0;
-    if 1024 <= x {
-        return Terc4Number::Refused(Refusal::NotTerc4(0));
-    }
-    let table = numbers();
-    let n = table[x as usize];
-    if n == 16 {
-        return Terc4Number::Refused(Refusal::NotTerc4(0));
-    }
-    Terc4Number::Number(n)
+    number(symbol).ok_or(Refusal::NotTerc4(0))
 }

@@ -3,24 +3,23 @@ use mathlib.Core.Path.{◌≡◌, refl}
 use mathlib.Core.List.{List, [], ◌∷◌}
 use Prim.Native.Nat.{ℕ, ◌-◌, ◌<◌}
 use lib.ListN.{get_or, set, replicate}
+use Rattle.std.specs.Prelude.{Ok, Err}
 use Rattle.laws.proofs.Finite.{agreed}
 use Rattle.refusal.specs.declared.Refusal.TheVariants.{Unlisted}
-use Rattle.refusal.specs.declared.Verdict.TheVariants.{Fine, Refused}
 use Rattle.refusal.specs.Verdict.{verdict, verdict_number}
 use Rattle.timing.specs.declared.DviTiming.{DviTiming}
-use Rattle.timing.specs.declared.CommandWord.TheVariants as word
 use Rattle.timing.specs.Command.{command_of}
 use Rattle.timing.specs.Sync.{polarity_asks}
 use Rattle.timing.specs.Timing.{ranges, timing_asks, vga}
 
 -- a command counts from 1 to 4,095
-pub counts : (c : ℕ) → (command_of c 0 ≡ word.Refused Unlisted) × (command_of c 4096 ≡ word.Refused Unlisted)
+pub counts : (c : ℕ) → (command_of c 0 ≡ Err Unlisted) × (command_of c 4096 ≡ Err Unlisted)
 counts c = (refl, refl)
 
-pub raw_counts : (command_of 0 1 ≡ word.Word 1) × (command_of 0 4095 ≡ word.Word 0xfff)
+pub raw_counts : (command_of 0 1 ≡ Ok 1) × (command_of 0 4095 ≡ Ok 0xfff)
 raw_counts = (refl, refl)
 
-pub repeat_counts : (command_of 1 1 ≡ word.Word 0x1001) × (command_of 1 4095 ≡ word.Word 0x1fff)
+pub repeat_counts : (command_of 1 1 ≡ Ok 0x1001) × (command_of 1 4095 ≡ Ok 0x1fff)
 repeat_counts = (refl, refl)
 
 -- a timing with these polarities and these eight numbers, in the order of its fields
@@ -48,15 +47,15 @@ most = replicate 8 4095
 abbrev judged : List ℕ → ℕ
 judged n = verdict_number (verdict (timing_asks (timing 0 0 n)))
 
-pub least_accepted : verdict (timing_asks (timing 0 1 least)) ≡ Fine
+pub least_accepted : verdict (timing_asks (timing 0 1 least)) ≡ Ok tt
 unfolding ranges
 least_accepted = refl
 
-pub most_accepted : verdict (timing_asks (timing 1 0 most)) ≡ Fine
+pub most_accepted : verdict (timing_asks (timing 1 0 most)) ≡ Ok tt
 unfolding ranges
 most_accepted = refl
 
-pub vga_accepted : verdict (timing_asks vga) ≡ Fine
+pub vga_accepted : verdict (timing_asks vga) ≡ Ok tt
 unfolding ranges
 vga_accepted = refl
 
@@ -71,6 +70,6 @@ above_most = agreed (λ k. judged (set most k 4096)) (λ k. 7) 8 tt
 
 -- a polarity of 2 is refused, and with 4, whatever the ranges are
 pub polarities_refused : (n : List ℕ)
-    → (verdict (timing_asks (timing 2 0 n)) ≡ Refused Unlisted) × (verdict (timing_asks (timing 0 2 n)) ≡ Refused Unlisted)
-    × (verdict (polarity_asks (timing 2 1 n)) ≡ Refused Unlisted) × (verdict (polarity_asks (timing 1 2 n)) ≡ Refused Unlisted)
+    → (verdict (timing_asks (timing 2 0 n)) ≡ Err Unlisted) × (verdict (timing_asks (timing 0 2 n)) ≡ Err Unlisted)
+    × (verdict (polarity_asks (timing 2 1 n)) ≡ Err Unlisted) × (verdict (polarity_asks (timing 1 2 n)) ≡ Err Unlisted)
 polarities_refused n = (refl, refl, refl, refl)

@@ -1,5 +1,5 @@
 pub mod Edges
 pub mod Expanding
-pub mod Levels
 pub mod Order
 pub mod Ranges
+pub mod States

@@ -5,9 +5,9 @@ use mathlib.Core.List.{[]}
 use Prim.Native.Nat.{ℕ, ◌≤◌, ◌<◌}
 use borrow.Author.Tests.{le-leb, lt-ltb}
 use lib.Dec.{leb, ltb, leb→le, ltb→lt}
+use Rattle.std.specs.Prelude.{Ok}
 use Rattle.laws.proofs.Truth.{and_left, and_right, true_T, T_true}
 use Rattle.refusal.specs.declared.Refusal.TheVariants.{Unlisted, TimingRange}
-use Rattle.refusal.specs.declared.Verdict.TheVariants.{Fine}
 use Rattle.refusal.specs.Verdict.{verdict}
 use Rattle.timing.specs.declared.DviTiming.{DviTiming}
 use Rattle.timing.specs.Timing.{within, ranges, range_asks, timing_asks}
@@ -42,7 +42,7 @@ last a b e = T_true (and_right a b (true_T e))
 front : (a b : Bool) → (a && b) ≡ true → a ≡ true
 front a b e = T_true (and_left a b (true_T e))
 
-pub accepted : (t : DviTiming) → verdict (timing_asks t) ≡ Fine → Accepted t
+pub accepted : (t : DviTiming) → verdict (timing_asks t) ≡ Ok tt → Accepted t
 unfolding ranges
 accepted t e =
     let ph : Bool = ltb t.h_sync_polarity 2 in
@@ -80,7 +80,7 @@ tests : {low x : ℕ} → Within low x → within low x ≡ true
 tests {low} {x} w = simp (le-leb low x w.least, le-leb x 4095 w.most)
 
 -- and a timing that has all this is not refused
-pub accepting : (t : DviTiming) → Accepted t → verdict (timing_asks t) ≡ Fine
+pub accepting : (t : DviTiming) → Accepted t → verdict (timing_asks t) ≡ Ok tt
 unfolding ranges
 accepting t a =
     simp (

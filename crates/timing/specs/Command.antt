@@ -1,10 +1,11 @@
 -- RP2350 datasheet, HSTX command expander: what a list of words in the FIFO puts on the wire. Bits 15..12 of a command word are the command, bits 11..0
 -- its count. Command 0 sends the next `count` words as they stand, command 1 sends the next word `count` times.
-use Rattle.std.specs.Prelude.{Bool, cond, ◌&&◌, List, [], ◌∷◌, ◌++◌, ℕ, zero, suc, ◌+◌, ◌*◌, ◌/◌, ◌%◌, ◌^◌, eqb, leb, length, replicate}
+use Rattle.std.specs.Prelude.{Bool, cond, ◌&&◌, List, [], ◌∷◌, ◌++◌, ℕ, zero, suc, ◌+◌, ◌*◌, ◌/◌, ◌%◌, ◌^◌, eqb, leb, length, replicate, Result, Ok, Err}
 use Rattle.refusal.specs.declared.Refusal.TheVariants.{Unlisted}
+use Rattle.refusal.specs.declared.Refusal.{Refusal}
+use Rattle.timing.specs.declared.Command.{Command}
+use Rattle.timing.specs.declared.Command.TheVariants.{Raw, Repeat}
 use Rattle.refusal.specs.Verdict.{Ask, ask, verdict, answered}
-use Rattle.timing.specs.declared.CommandWord.{CommandWord}
-use Rattle.timing.specs.declared.CommandWord.TheVariants as word
 
 -- the command word with this command and count
 abbrev pub command : ℕ → ℕ → ℕ
@@ -16,6 +17,11 @@ raw_word count = command 0 count
 abbrev pub repeat_word : ℕ → ℕ
 repeat_word count = command 1 count
 
+-- of the two commands that are used: as the words stand, and one word repeated
+abbrev pub command_number : Command → ℕ
+command_number Raw = 0
+command_number Repeat = 1
+
 -- a listed count: what the twelve bits hold, but for 0
 abbrev pub countable : ℕ → Bool
 countable count = leb 1 count && leb count 4095
@@ -24,8 +30,8 @@ abbrev pub command_asks : ℕ → List Ask
 command_asks count = ask (countable count) Unlisted ∷ []
 
 -- what a command helper answers: its word, or the refusal of its count
-abbrev pub command_of : ℕ → ℕ → CommandWord
-command_of c count = answered (verdict (command_asks count)) (word.Word (command c count)) word.Refused
+abbrev pub command_of : ℕ → ℕ → Result ℕ Refusal
+command_of c count = answered (verdict (command_asks count)) (Ok (command c count)) Err
 
 -- ---- the expander at work
 

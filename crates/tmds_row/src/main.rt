@@ -1,83 +1,51 @@
 // All of standard input as one row from discrepancy 0, in pieces of at most 4,096 bytes: each symbol as three hexadecimal digits and a line feed.
 #![tactic(auto)]
 
-ghost use Rattle.std.specs.Prelude.{◌≡◌, length};
-
-use row::RowEncoded;
 use std::io;
 use std::io::{Print, Read};
 
-#[derive(Clone, Copy)]
-enum Turn {
-    // There may be more: the discrepancy to go on from.
-    More(i32),
-    Stop,
-}
-
-// Room for a piece, for its symbols and for their lines. A function of its own, so that a proof knows the length and not 16,384 zeros.
-fn byte_room() -> [u8; 4096]
-    ensures { 4096 ≡ length result }
-{
-    [0; 4096]
-}
-
-fn symbol_room() -> [u16; 4096]
-    ensures { 4096 ≡ length result }
-{
-    [0; 4096]
-}
-
-fn text_room() -> [u8; 16384]
-    ensures { 16384 ≡ length result }
-{
-    [0; 16384]
-}
-
-// The lines of one piece, in one write.
+// The lines of one piece, in one write, and the discrepancy to go on from.
 fn write_lines(
     rt: &impl Print,
     discrepancy: i32,
     bytes: &[u8],
     symbols: &mut [u16],
     text: &mut [u8],
-) -> io::Result<Turn> {
-    let r = row_text::encode_row_text(discrepancy, bytes, symbols, text);
-    let RowEncoded::Done(next) = r else {
-        return Ok(Turn::Stop);
+) -> io::Result<Option<i32>> {
+    let Ok(next) = row_text::encode_row_text(discrepancy, bytes, symbols, text) else {
+        return Ok(None);
     };
     rt.write_all(text)?;
-    Ok(Turn::More(next))
+    Ok(Some(next))
 }
 
-// Reads once, and writes the lines of what came. A short read is only a smaller piece, since the discrepancy goes on.
-fn piece(input: &mut impl Read, rt: &impl Print, discrepancy: i32) -> io::Result<Turn> {
-    let mut bytes = byte_room();
+// Reads once, and writes the lines of what came: none at the end. A short read is only a smaller piece, since the discrepancy goes on.
+fn piece(input: &mut impl Read, rt: &impl Print, discrepancy: i32) -> io::Result<Option<i32>> {
+    let mut bytes = [0u8; 4096];
     let n = input.read(&mut bytes)?;
     if n == 0 {
-        return Ok(Turn::Stop);
+        return Ok(None);
     }
-    let m = 4 * n;
-    let mut symbols = symbol_room();
-    let mut text = text_room();
+    // Rooms of a fixed size, each lent as far as it is used: there is no heap.
+    let mut symbols = [0u16; 4096];
+    let mut text = [0u8; 16384];
     write_lines(
         rt,
         discrepancy,
         &bytes[..n],
         &mut symbols[..n],
-        &mut text[..m],
+        &mut text[..4 * n],
     )
 }
 
 // Each turn takes at least one byte, so the count is never reached.
 fn all(input: &mut impl Read, rt: &impl Print) -> io::Result<()> {
     let mut discrepancy = 0;
-    let mut turns = u64::MAX;
-    while turns > 0 {
-        let Turn::More(next) = piece(input, rt, discrepancy)? else {
-            return Ok(());
+    for _ in 0..u64::MAX {
+        let Some(next) = piece(input, rt, discrepancy)? else {
+            break;
         };
         discrepancy = next;
-        turns -= 1;
     }
     Ok(())
 }

@@ -4,12 +4,11 @@ use mathlib.Core.Bool.{Bool, true, false}
 use mathlib.Core.List.{List}
 use Prim.Native.Nat.{ℕ}
 use lib.ListN.{length}
+use Rattle.std.specs.Prelude.{Ok, Err}
 use Rattle.laws.specs.Bytes.{bytes_of}
 use Rattle.refusal.specs.declared.Refusal.{Refusal}
 use Rattle.refusal.specs.declared.Refusal.TheVariants.{Length}
-use Rattle.refusal.specs.declared.Verdict.{Verdict}
-use Rattle.refusal.specs.declared.Verdict.TheVariants.{Fine, Refused}
-use Rattle.refusal.specs.Verdict.{unless, kept}
+use Rattle.refusal.specs.Verdict.{unless, kept, Verdict}
 use Rattle.refusal.proofs.Verdicts.{holds_first}
 use Rattle.laws.proofs.Truth.{T_true}
 use Rattle.refusal.proofs.Upward.{never}
@@ -19,12 +18,12 @@ use Rattle.word_bytes.specs.Words.{four_each, words_first}
 
 through : (fits : Bool) (r : Refusal) (v : Verdict) (f : List ℕ → List ℕ) (new scratch old : List ℕ)
     → kept (unless fits r v) (f (kept v new scratch)) old ≡ kept (unless fits r v) (f new) old
-through true r Fine f new scratch old = refl
-through true r (Refused k) f new scratch old = refl
+through true r (Ok _) f new scratch old = refl
+through true r (Err k) f new scratch old = refl
 through false r v f new scratch old = refl
 
 lent_first : (fits : Bool) (r : Refusal) (v : Verdict) (f : List ℕ → List ℕ) (lent scratch old : List ℕ)
-    → kept (unless fits r v) (f (kept (unless fits r Fine) lent scratch)) old ≡ kept (unless fits r v) (f lent) old
+    → kept (unless fits r v) (f (kept (unless fits r (Ok tt)) lent scratch)) old ≡ kept (unless fits r v) (f lent) old
 lent_first true r v f lent scratch old = refl
 lent_first false r v f lent scratch old = refl
 
@@ -42,7 +41,7 @@ crossed n old v new before scratch out told_of r l e s h = (
 
 -- the same where the words are made from those that were lent, f of them
 pub crossed_lent : (n : ℕ) (old : List ℕ) (v : Verdict) (f : List ℕ → List ℕ) (lent zeros before scratch out : List ℕ) (told_of : Verdict) (r : Answer)
-    → length scratch ≡ n → told_of ≡ v → before ≡ kept (words_first n old Fine) lent zeros → scratch ≡ kept v (f before) before
+    → length scratch ≡ n → told_of ≡ v → before ≡ kept (words_first n old (Ok tt)) lent zeros → scratch ≡ kept v (f before) before
     → (r ≡ told (words_first (length scratch) old told_of)) × (out ≡ kept (words_first (length scratch) old told_of) (bytes_of 4 scratch) old)
     → (r ≡ told (words_first n old v)) × (out ≡ kept (words_first n old v) (bytes_of 4 (f lent)) old)
 crossed_lent n old v f lent zeros before scratch out told_of r l e b s h =
@@ -53,9 +52,9 @@ crossed_lent n old v f lent zeros before scratch out told_of r l e b s h =
     )
 
 -- the first question alone tells of the whole verdict: where it fails the rest isn't asked, where it holds the rest decides
-pub rest_unasked : (fits : Bool) (r k : Refusal) (v : Verdict) → unless fits r Fine ≡ Refused k → unless fits r v ≡ Refused k
+pub rest_unasked : (fits : Bool) (r k : Refusal) (v : Verdict) → unless fits r (Ok tt) ≡ Err k → unless fits r v ≡ Err k
 rest_unasked true r k v e = absurd (never refl e)
 rest_unasked false r k v e = e
 
-pub rest_decides : (fits : Bool) (r : Refusal) → unless fits r Fine ≡ Fine → fits ≡ true
-rest_decides fits r e = T_true (holds_first fits r Fine e)
+pub rest_decides : (fits : Bool) (r : Refusal) → unless fits r (Ok tt) ≡ Ok tt → fits ≡ true
+rest_decides fits r e = T_true (holds_first fits r (Ok tt) e)

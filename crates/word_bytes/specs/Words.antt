@@ -1,8 +1,7 @@
 -- Words that cross as bytes.
 use Rattle.std.specs.Prelude.{Bool, List, ℕ, ◌*◌, eqb, length}
 use Rattle.refusal.specs.declared.Refusal.TheVariants.{Length}
-use Rattle.refusal.specs.declared.Verdict.{Verdict}
-use Rattle.refusal.specs.Verdict.{Ask, ask, unless}
+use Rattle.refusal.specs.Verdict.{Ask, ask, unless, Verdict}
 
 -- so many bytes are four for each of n words
 abbrev pub four_each : ℕ → ℕ → Bool

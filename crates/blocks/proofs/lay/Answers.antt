@@ -1,43 +1,26 @@
--- `blocks::lay`: a word's eight bytes, the low one first.
-use mathlib.Core.Path.{◌≡◌}
-use Prim.Native.Nat.{suc, ◌+◌}
-use native.Mathlib.Numerals.{add-one}
+-- `blocks::lay`: the bytes before place i are copied.
+use mathlib.Core.Path.{◌≡◌, ap, ap₂, ◌∙◌}
+use mathlib.Core.List.{List, ◌++◌}
+use Prim.Native.Nat.{ℕ, ◌+◌}
 use native.Mathlib.Omega.{arith}
-use borrow.Author.Rules.{rules}
-use lib.ListN.{length-set}
+use lib.ListN.{take, drop, get_or, set}
+use lib.Seq.{take_all}
+use Rattle.std.proofs.lemmas.List.Edits.{paste_none, paste_more}
 use Rattle.blocks.proofs.lay.Goals as goal
 
-pub bounds-packet-at-2 : goal.bounds-packet-at-2
-bounds-packet-at-2 c = simp length-set (omega arith)
+pub loop-i-init : goal.loop-i-init
+loop-i-init g c = paste_none c.args.packet.now c.args.at c.args.block
 
-pub bounds-packet-at-3 : goal.bounds-packet-at-3
-bounds-packet-at-3 c = simp length-set (omega arith)
-
-pub bounds-packet-at-4 : goal.bounds-packet-at-4
-bounds-packet-at-4 c = simp length-set (omega arith)
-
-pub bounds-packet-at-5 : goal.bounds-packet-at-5
-bounds-packet-at-5 c = simp length-set (omega arith)
-
-pub bounds-packet-at-6 : goal.bounds-packet-at-6
-bounds-packet-at-6 c = simp length-set (omega arith)
-
-pub bounds-packet-at-7 : goal.bounds-packet-at-7
-bounds-packet-at-7 c = simp length-set (omega arith)
-
-pub bounds-packet-at-8 : goal.bounds-packet-at-8
-bounds-packet-at-8 c = simp length-set (omega arith)
-
-pub shape_of-packet : goal.shape_of-packet
-shape_of-packet c = search rules depth 10
+pub loop-i-preserved : goal.loop-i-preserved
+loop-i-preserved g c =
+    let a = c.args in
+    let i : ℕ = c.loop-i.i in
+    ap (λ (p : List ℕ). set p (a.at + i) (get_or a.block i 0)) c.loop-i.invariant ∙ paste_more a.packet.now a.at a.block i 0 (omega arith) (omega arith)
 
 pub returns : goal.returns
-returns c =
-    let at = c.args.at in
-    let two : at + 2 ≡ suc (suc at) = omega arith in
-    let three : at + 3 ≡ suc (suc (suc at)) = omega arith in
-    let four : at + 4 ≡ suc (suc (suc (suc at))) = omega arith in
-    let five : at + 5 ≡ suc (suc (suc (suc (suc at)))) = omega arith in
-    let six : at + 6 ≡ suc (suc (suc (suc (suc (suc at))))) = omega arith in
-    let seven : at + 7 ≡ suc (suc (suc (suc (suc (suc (suc at)))))) = omega arith in
-    rw (two, three, four, five, six, seven, add-one)
+returns g c =
+    let a = c.args in
+    let i : ℕ = c.loop-i.i in
+    let end : a.at + i ≡ a.at + g.row.N = omega arith in
+    c.loop-i.invariant
+    ∙ ap₂ (λ (block : List ℕ) (n : ℕ). take a.at a.packet.now ++ block ++ drop n a.packet.now) (take_all i a.block (omega arith)) end

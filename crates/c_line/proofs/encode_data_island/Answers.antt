@@ -17,7 +17,7 @@ returns-clause-words c =
     let made = c.encode_data_island-v in
     let lent = c.words_lent in
     let short : length lent.new.words ≡ 56 = search rules in
-    let e = rw (c.timing_of.ensures, short) at made.ensures in
+    let e = rw (c.into.ensures, short) at made.ensures in
     let long : length made.new.line ≡ 56 = search rules in
     (crossed_lent 56 z.line.now (verdict (island_asks (timing_of z.timing) 56 (length z.packet.now) z.state)) (encode_line (timing_of z.timing) z.state z.packet.now) (numbers_of 4 56 z.line.now) (replicate 56 0) lent.new.words made.new.line _
     made.result told.result long e.answer lent.ensures.read e.words (told.ensures.answer, told.ensures.written)).1

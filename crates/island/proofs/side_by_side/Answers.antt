@@ -11,4 +11,4 @@ returns c =
     let on : ℕ = 4 * (a.j / 2 % 2) in
     let made =
     c.merge.ensures ∙ ap₂ (λ (x y : ℕ). fours (x / 2 ^ on) (y / 2 ^ on)) c.merge-one.ensures c.merge-two.ensures in
-    λ i s o hi hs ho. ap (bit (8 * i + (2 * s + o))) made ∙ side_by_side a.j a.a a.b a.c a.d i s o hi hs ho
+    λ i s o hi hs ho. ap (bit (8 * i + (2 * s + o))) made ∙ side_by_side a.j a.words i s o hi hs ho

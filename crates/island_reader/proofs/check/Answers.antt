@@ -1,53 +1,106 @@
 -- `island_reader::check` meets its contract.
-use mathlib.Core.Path.{◌≡◌, sym, ap, ◌∙◌}
-use mathlib.Core.Bool.{Bool}
-use mathlib.Core.List.{List}
-use Prim.Native.Nat.{ℕ}
-use borrow.Author.Tests.{eq-eqb}
-use lib.ListN.{length}
-use Rattle.refusal.specs.declared.Refusal.TheVariants.{Length}
-use Rattle.refusal.specs.declared.Verdict.TheVariants.{Fine}
-use Rattle.refusal.specs.Verdict.{unless, verdict, kept}
-use Rattle.refusal.proofs.Upward.{never}
-use Rattle.refusal.proofs.Verdicts.{joined, stops, goes_on}
-use Rattle.hdmi.specs.Packet.{sealed}
-use Rattle.hdmi.proofs.Packet.{sealed-right}
-use Rattle.island_reader.specs.Found.{packet_found}
-use Rattle.island_reader.specs.Numbers.{packet_in}
-use Rattle.island_reader.specs.Read.{word_asks, parity_asks}
-use Rattle.island_reader.proofs.Agree.{packet_agrees}
-use Rattle.island_reader.proofs.Chain.{words_passed, lanes-right}
-use Rattle.island_reader.proofs.Unpacking.{length_packet}
+use mathlib.Core.Path.{◌≡◌, sym, ap, ap₂, ◌∙◌}
+use mathlib.Core.Bool.{false}
+use mathlib.Core.List.{List, [], ◌∷◌}
+use Prim.Native.Nat.{ℕ, ◌+◌, ◌<◌}
+use native.Mathlib.Omega.{arith}
+use lib.ListN.{get_or}
+use Rattle.std.specs.Prelude.{Result, Ok, Err}
+use Rattle.refusal.specs.declared.Refusal.{Refusal}
+use Rattle.refusal.specs.declared.Refusal.TheVariants.{SyncBits}
+use Rattle.refusal.specs.Verdict.{Verdict, verdict, answered}
+use Rattle.island_reader.specs.declared.Carried.{Carried}
+use Rattle.island_reader.specs.Found.{unread, packet_found}
+use Rattle.island_reader.specs.Numbers.{numbers_in, packet_in, sync_unlike}
+use Rattle.island_reader.specs.Read.{nowhere, high_ask, guard_ask, lane_ask, sync_ask, parity_asks}
+use Rattle.island_reader.proofs.Agree.{packet_agrees, sync-ask-agrees}
+use Rattle.island_reader.proofs.Chain.{hv, all_asks, handed_on, answered_err, answered_ok, fine_holds, first_refuses, second_refuses, third_refuses, fourth_decides, words_refuse, words_pass, guard_right, lanes-right}
 use Rattle.island_reader.proofs.check.Goals as goal
 
-pub returns-in_default : goal.returns-in_default
-returns-in_default c =
-    let ws : List ℕ = c.args.words.now in
-    let r = c.in_default.is in
-    let v = c.judge-judged.ensures.answer in record {
-      answer = r ∙ sym (joined (word_asks ws) (parity_asks (packet_found ws)) ∙ stops (verdict (parity_asks (packet_found ws))) (sym v ∙ r));
-      read = λ e. absurd (never e r);
-    }
+module _ (ws : List ℕ) where
+  abbrev carried : Carried
+  carried = record { hv = hv ws; packet = packet_found ws }
 
-pub blocks-requires : goal.blocks-requires
-blocks-requires c =
-    let p : List ℕ = c.unpack.new.packet in
-    let q : List ℕ = c.copy.new.to in
-    let l : length p ≡ 36 = ap length c.unpack.ensures ∙ length_packet _ in
-    let d : q ≡ p = c.copy.ensures in
-    let m : length q ≡ 36 = ap length d ∙ l in
-    let e : c.seal.new.packet ≡ sealed p =
-    c.seal.ensures.1 ∙ ap (λ (t : Bool). kept (unless t Length Fine) (sealed q) q) (eq-eqb (length q) 36 m) ∙ ap sealed d in
-    (l, ap length e ∙ (sealed-right p l).size, e)
+  -- a refusal is handed on
+  refuses : {v : Result Carried Refusal} {r : Refusal} → v ≡ Err r → verdict (all_asks ws) ≡ Err r → v ≡ answered (verdict (all_asks ws)) (Ok carried) Err
+  refuses d e = d ∙ ap (λ (v : Verdict). answered v (Ok carried) Err) (sym e)
+
+  -- what is known behind the guard words, and behind the lanes
+  pair_lt : verdict (guard_ask (hv ws) ws ∷ []) ≡ Ok tt → hv ws < 4
+  pair_lt g = (guard_right (hv ws) ws (fine_holds (guard_ask (hv ws) ws) g) 0 (omega arith)).0
+
+  clean : verdict (lane_ask ws ∷ []) ≡ Ok tt → (k : ℕ) → k < 32 → unread (get_or ws (2 + k) 0) ≡ false
+  clean l = lanes-right ws (fine_holds (lane_ask ws) l)
+
+  -- the sync bits, by the numbers
+  module _ {h : ℕ} {found : List ℕ} (g : verdict (guard_ask (hv ws) ws ∷ []) ≡ Ok tt) (l : verdict (lane_ask ws ∷ []) ≡ Ok tt) (dh : hv ws ≡ h) (df : numbers_in ws ≡ found) where
+    synced : verdict (nowhere (sync_unlike h found) 2 32 SyncBits ∷ []) ≡ verdict (sync_ask (hv ws) ws ∷ [])
+    synced =
+        sym (ap₂ (λ (h : ℕ) (ns : List ℕ). verdict (nowhere (sync_unlike h ns) 2 32 SyncBits ∷ [])) dh df)
+        ∙ sync-ask-agrees ws (clean l) (hv ws) (pair_lt g)
+
+    unpacked : packet_in found ≡ packet_found ws
+    unpacked = ap packet_in (sym df) ∙ packet_agrees ws (clean l)
+
+pub returns-in_err-high_bits : goal.returns-in_err-high_bits
+returns-in_err-high_bits c =
+    let ws : List ℕ = c.args.words.now in
+    let e = first_refuses (high_ask ws) (guard_ask (hv ws) ws ∷ lane_ask ws ∷ sync_ask (hv ws) ws ∷ []) (sym c.high_bits.ensures ∙ c.in_err-high_bits.was) in
+    refuses ws (handed_on c.from_residual.result _ c.from_residual.ensures.1) (words_refuse ws e)
+
+pub returns-in_err-hv : goal.returns-in_err-hv
+returns-in_err-hv c =
+    let ws : List ℕ = c.args.words.now in
+    let x = sym c.high_bits.ensures ∙ c.in_ok-high_bits.was in
+    let g = answered_err (verdict (guard_ask (hv ws) ws ∷ [])) (hv ws) _ (sym c.guards.ensures ∙ c.in_err-hv.was) in
+    let e = second_refuses (high_ask ws) (guard_ask (hv ws) ws) (lane_ask ws) (sync_ask (hv ws) ws) x g in
+    refuses ws (handed_on c.from_residual-in_err-hv.result _ c.from_residual-in_err-hv.ensures.1) (words_refuse ws e)
+
+pub returns-in_err-found : goal.returns-in_err-found
+returns-in_err-found c =
+    let ws : List ℕ = c.args.words.now in
+    let x = sym c.high_bits.ensures ∙ c.in_ok-high_bits.was in
+    let g = answered_ok (verdict (guard_ask (hv ws) ws ∷ [])) (hv ws) _ (sym c.guards.ensures ∙ c.in_ok-hv.was) in
+    let l = answered_err (verdict (lane_ask ws ∷ [])) (numbers_in ws) _ (sym c.lanes.ensures ∙ c.in_err-found.was) in
+    let e = third_refuses (high_ask ws) (guard_ask (hv ws) ws) (lane_ask ws) (sync_ask (hv ws) ws) x g.0 l in
+    refuses ws (handed_on c.from_residual-in_err-found.result _ c.from_residual-in_err-found.ensures.1) (words_refuse ws e)
+
+pub sync-requires : goal.sync-requires
+sync-requires c =
+    let ws : List ℕ = c.args.words.now in
+    let g = answered_ok (verdict (guard_ask (hv ws) ws ∷ [])) (hv ws) _ (sym c.guards.ensures ∙ c.in_ok-hv.was) in
+    omega (arith, pair_lt ws g.0, g.1)
+
+pub returns-in_err-sync : goal.returns-in_err-sync
+returns-in_err-sync c =
+    let ws : List ℕ = c.args.words.now in
+    let x = sym c.high_bits.ensures ∙ c.in_ok-high_bits.was in
+    let g = answered_ok (verdict (guard_ask (hv ws) ws ∷ [])) (hv ws) _ (sym c.guards.ensures ∙ c.in_ok-hv.was) in
+    let l = answered_ok (verdict (lane_ask ws ∷ [])) (numbers_in ws) _ (sym c.lanes.ensures ∙ c.in_ok-found.was) in
+    let s = sym (c.sync.ensures ∙ synced ws g.0 l.0 g.1 l.1) ∙ c.in_err-sync.was in
+    let e = fourth_decides (high_ask ws) (guard_ask (hv ws) ws) (lane_ask ws) (sync_ask (hv ws) ws) x g.0 l.0 ∙ s in
+    refuses ws (handed_on c.from_residual-in_err-sync.result _ c.from_residual-in_err-sync.ensures.1) (words_refuse ws e)
+
+pub returns-in_err-blocks : goal.returns-in_err-blocks
+returns-in_err-blocks c =
+    let ws : List ℕ = c.args.words.now in
+    let x = sym c.high_bits.ensures ∙ c.in_ok-high_bits.was in
+    let g = answered_ok (verdict (guard_ask (hv ws) ws ∷ [])) (hv ws) _ (sym c.guards.ensures ∙ c.in_ok-hv.was) in
+    let l = answered_ok (verdict (lane_ask ws ∷ [])) (numbers_in ws) _ (sym c.lanes.ensures ∙ c.in_ok-found.was) in
+    let s = sym (c.sync.ensures ∙ synced ws g.0 l.0 g.1 l.1) ∙ c.in_ok-sync.was in
+    let e = fourth_decides (high_ask ws) (guard_ask (hv ws) ws) (lane_ask ws) (sync_ask (hv ws) ws) x g.0 l.0 ∙ s in
+    let p = c.unpack-packet.ensures ∙ unpacked ws g.0 l.0 g.1 l.1 in
+    let b = sym (c.blocks-2.ensures ∙ ap (λ (p : List ℕ). verdict (parity_asks p)) p) ∙ c.in_err-blocks.was in
+    refuses ws (handed_on c.from_residual-in_err-blocks.result _ c.from_residual-in_err-blocks.ensures.1) (words_pass ws e ∙ b)
 
 pub returns : goal.returns
 returns c =
     let ws : List ℕ = c.args.words.now in
-    let judge = c.judge-judged in
-    let fine = c.in-Fine.is in
-    let v = sym judge.ensures.answer ∙ fine in
-    let clean = lanes-right ws (words_passed ws v).2 in
-    let p = c.unpack.ensures ∙ ap packet_in (judge.ensures.read fine) ∙ packet_agrees ws clean in record {
-      answer = c.blocks-2.ensures ∙ ap (λ (q : List ℕ). verdict (parity_asks q)) p ∙ sym (joined (word_asks ws) (parity_asks (packet_found ws)) ∙ goes_on v);
-      read = λ f. p;
-    }
+    let x = sym c.high_bits.ensures ∙ c.in_ok-high_bits.was in
+    let g = answered_ok (verdict (guard_ask (hv ws) ws ∷ [])) (hv ws) _ (sym c.guards.ensures ∙ c.in_ok-hv.was) in
+    let l = answered_ok (verdict (lane_ask ws ∷ [])) (numbers_in ws) _ (sym c.lanes.ensures ∙ c.in_ok-found.was) in
+    let s = sym (c.sync.ensures ∙ synced ws g.0 l.0 g.1 l.1) ∙ c.in_ok-sync.was in
+    let e = fourth_decides (high_ask ws) (guard_ask (hv ws) ws) (lane_ask ws) (sync_ask (hv ws) ws) x g.0 l.0 ∙ s in
+    let p = c.unpack-packet.ensures ∙ unpacked ws g.0 l.0 g.1 l.1 in
+    let b = sym (c.blocks-2.ensures ∙ ap (λ (p : List ℕ). verdict (parity_asks p)) p) ∙ c.in_ok-blocks.was in
+    ap₂ (λ (h : ℕ) (p : List ℕ). Ok (record { hv = h; packet = p })) (sym g.1) p ∙ ap (λ (v : Verdict). answered v (Ok (carried ws)) Err) (sym (words_pass ws e ∙ b))

@@ -1,70 +1,49 @@
--- `island_reader::lanes` meets its contract. The loop's invariant: the search has come to word 2 + k, and the numbers before it are found.
-use mathlib.Core.Path.{◌≡◌, refl, sym, ap, ◌∙◌}
-use mathlib.Core.Bool.{true, false}
+-- `island_reader::lanes` meets its contract.
+use mathlib.Core.Path.{◌≡◌, sym, ap, ◌∙◌}
+use mathlib.Core.Bool.{false}
 use mathlib.Core.List.{List}
-use Prim.Native.Nat.{ℕ, ◌+◌, ◌-◌}
+use Prim.Native.Nat.{ℕ, ◌+◌}
 use native.Mathlib.Omega.{arith}
+use borrow.Author.Count.{below_more}
 use lib.ListN.{get_or}
-use Rattle.laws.specs.Search.{first}
+use Rattle.std.specs.Prelude.{Ok, Err}
 use Rattle.laws.proofs.Fronts.{front_none, front_more, front_all}
-use Rattle.laws.proofs.Searching.{stop, go_on, end}
 use Rattle.refusal.specs.declared.Refusal.TheVariants.{NotTerc4}
-use Rattle.island_reader.specs.Numbers.{numbers_of, numbers_in}
+use Rattle.refusal.specs.Verdict.{Verdict, answered}
+use Rattle.island_reader.specs.Found.{unread}
+use Rattle.island_reader.specs.Numbers.{numbers_in}
 use Rattle.island_reader.specs.Read.{lane_wrong}
-use Rattle.island_reader.proofs.Nibbles.{unread_means, read_means, length_numbers, numbers_at}
-use Rattle.island_reader.proofs.Nowhere.{refused_at, found_none}
+use Rattle.island_reader.proofs.Chain.{handed_on}
+use Rattle.island_reader.proofs.Nibbles.{clean_words, length_numbers, numbers_at}
+use Rattle.island_reader.proofs.Nowhere.{refused_first, refused_none}
 use Rattle.island_reader.proofs.lanes.Goals as goal
 
 pub loop-k-init : goal.loop-k-init
-loop-k-init c =
-    (omega arith, refl, front_none (numbers_in c.args.words.now) c.args.found.now (omega (arith, length_numbers c.args.words.now)))
+loop-k-init c = record { clean = λ j h. absurd (omega arith); front = front_none (numbers_in c.args.words.now) _ (omega (arith, length_numbers c.args.words.now)) }
 
-pub numbers-n-requires : goal.numbers-n-requires
-numbers-n-requires c = c.requires.0
-
-pub shape_of-found-then-n-ge4096 : goal.shape_of-found-then-n-ge4096
-shape_of-found-then-n-ge4096 c =
-    let l = c.loop-k in
-    omega (arith, l.invariant.2.long, length_numbers c.args.words.now)
-
-pub returns-then-n-ge4096 : goal.returns-then-n-ge4096
-returns-then-n-ge4096 c =
+pub returns-in_err-found : goal.returns-in_err-found
+returns-in_err-found c =
     let ws : List ℕ = c.args.words.now in
-    let l = c.loop-k in
-    let w : ℕ = get_or ws (2 + l.k) 0 in
-    let t : lane_wrong ws (2 + l.k) ≡ true = unread_means w (omega (arith, c.numbers-n.ensures)) in
-    let at = l.invariant.1 ∙ stop (lane_wrong ws) (2 + l.k) 34 (omega arith) t in record {
-      answer = sym (refused_at (lane_wrong ws) 2 32 NotTerc4 (2 + l.k) at (omega arith));
-      read = λ e. let z : ◌≡◌ {A = ℕ} 0 1 = cc in absurd (omega arith);
-    }
-
-pub bounds-found-k : goal.bounds-found-k
-bounds-found-k c =
-    let l = c.loop-k in
-    omega (arith, l.invariant.2.long, length_numbers c.args.words.now)
+    let k : ℕ = c.loop-k.k in
+    let none = rw c.in_err-found.ensures.ok_part at c.numbers.ensures in
+    let said = rw c.in_err-found.ensures.ok_part at c.in_err-found.ensures.value in
+    let same : c.in_err-found.field-0.0 ≡ NotTerc4 (2 + k) = cc in
+    let at = refused_first (lane_wrong ws) 2 32 NotTerc4 (2 + k) (omega arith) (omega arith) none (clean_words ws k c.loop-k.invariant.clean) in
+    handed_on c.from_residual.result _ c.from_residual.ensures.1 ∙ ap Err same ∙ ap (λ (v : Verdict). answered v (Ok (numbers_in ws)) Err) (sym at)
 
 pub loop-k-preserved : goal.loop-k-preserved
 loop-k-preserved c =
     let ws : List ℕ = c.args.words.now in
     let l = c.loop-k in
-    let w : ℕ = get_or ws (2 + l.k) 0 in
-    let n : c.numbers-n.result ≡ numbers_of w = c.numbers-n.ensures in
-    let t : lane_wrong ws (2 + l.k) ≡ false = read_means w (omega arith) in
-    let s : 2 + l.k + 1 ≡ 2 + (l.k + 1) = omega arith in (
-      omega arith,
-      l.invariant.1 ∙ go_on (lane_wrong ws) (2 + l.k) 34 (omega arith) t ∙ ap (λ (j : ℕ). first (lane_wrong ws) j (34 - j)) s,
-      front_more (numbers_in ws) l.found l.k _ (omega (arith, length_numbers ws)) l.invariant.2 (n ∙ sym (numbers_at ws l.k (omega arith))),
-    )
-
-pub shape_of-found : goal.shape_of-found
-shape_of-found c =
-    omega (arith, c.loop-k.invariant.2.long, length_numbers c.args.words.now)
+    let it = rw c.in_ok-found.ensures.ok_part at c.numbers.ensures in
+    record {
+      clean = below_more (λ j. unread (get_or ws (2 + j) 0) ≡ false) l.k l.invariant.clean it.1;
+      front = front_more (numbers_in ws) l.found l.k _ (omega (arith, length_numbers ws)) l.invariant.front (it.0 ∙ sym (numbers_at ws l.k (omega arith)));
+    }
 
 pub returns : goal.returns
 returns c =
     let ws : List ℕ = c.args.words.now in
     let l = c.loop-k in
-    let s : 2 + l.k ≡ 34 = omega arith in record {
-      answer = sym (found_none (lane_wrong ws) 2 32 NotTerc4 (l.invariant.1 ∙ end (lane_wrong ws) (2 + l.k) 34 (omega arith) ∙ s));
-      read = λ e. front_all (numbers_in ws) l.found l.k (omega (arith, length_numbers ws)) l.invariant.2;
-    }
+    let at = refused_none (lane_wrong ws) 2 32 NotTerc4 (λ j a b. clean_words ws l.k l.invariant.clean j a (omega arith)) in
+    ap Ok (front_all (numbers_in ws) l.found l.k (omega (arith, length_numbers ws)) l.invariant.front) ∙ ap (λ (v : Verdict). answered v (Ok (numbers_in ws)) Err) (sym at)

@@ -1,14 +1,10 @@
--- `island_reader::sync` meets its contract. The loop's invariant: the search has come to word 2 + k, whose pair and marker are wanted.
+-- `island_reader::sync`: the words before 2 + k have the pair and the marker, and word 2 + k's are wanted.
 use mathlib.Core.Path.{◌≡◌}
-use Prim.Native.Nat.{◌+◌, ◌-◌, ◌≤◌}
-use Rattle.laws.specs.Search.{first}
+use mathlib.Core.Bool.{false}
+use Prim.Native.Nat.{ℕ, ◌+◌, ◌<◌}
 use Rattle.hdmi.specs.Island.{marker}
 use Rattle.island_reader.specs.Numbers.{sync_unlike}
 use Rattle.island_reader.proofs.sync.Given as goal
 
 abbrev pub invariant-loop-k : goal.invariant-loop-k
-invariant-loop-k l =
-    (l.k ≤ 32) × (l.want ≡ l.hv + marker l.k) × (first (sync_unlike l.hv l.found) 2 32 ≡ first (sync_unlike l.hv l.found) (2 + l.k) (34 - (2 + l.k)))
-
-abbrev pub decreases-loop-k : goal.decreases-loop-k
-decreases-loop-k l = 32 - l.k
+invariant-loop-k l = (l.want ≡ l.hv + marker l.k) × ((j : ℕ) → j < l.k → sync_unlike l.hv l.found (2 + j) ≡ false)

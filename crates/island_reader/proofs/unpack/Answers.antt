@@ -1,17 +1,25 @@
 -- `island_reader::unpack` meets its contract.
-use mathlib.Core.Path.{ap}
+use mathlib.Core.Path.{◌≡◌, refl, subst}
+use mathlib.Core.List.{List}
+use Prim.Native.Nat.{ℕ}
 use native.Mathlib.Omega.{arith}
-use lib.ListN.{length}
-use Rattle.island_reader.proofs.Unpacking.{with_header, length_packet}
+use Rattle.island_reader.specs.Numbers.{Unpacked}
+use Rattle.island_reader.proofs.Unpacking.{headed_more, headed_all, all_unpacked}
 use Rattle.island_reader.proofs.unpack.Goals as goal
 
-pub subpackets-requires : goal.subpackets-requires
-subpackets-requires c =
-    let u =
-    with_header c.args.found.now c.args.packet.now _ _ _ _ c.requires.1 c.header_byte.ensures
-    c.header_byte-2.ensures c.header_byte-3.ensures c.header_byte-4.ensures in
-    (c.requires.0, u.long, u)
+pub loop-m-init : goal.loop-m-init
+loop-m-init c = record { long = refl; head = λ k h. absurd (omega arith) }
 
-pub shape_of-packet : goal.shape_of-packet
-shape_of-packet c =
-    omega (arith, ap length c.subpackets.ensures, length_packet c.args.found.now, c.requires.1)
+pub loop-m-preserved : goal.loop-m-preserved
+loop-m-preserved c =
+    headed_more c.args.found.now c.loop-m.packet c.loop-m.m _ c.loop-m.invariant (omega arith) c.header_byte.ensures
+
+pub loop-i-init : goal.loop-i-init
+loop-i-init c = headed_all c.args.found.now c.loop-m.packet c.loop-m.m (omega arith) c.loop-m.invariant
+
+pub returns : goal.returns
+returns c =
+    let ns : List ℕ = c.args.found.now in
+    let l = c.loop-i in
+    let e : l.i ≡ 8 = omega arith in
+    all_unpacked ns l.packet (subst (λ (n : ℕ). Unpacked ns n l.packet) e l.invariant)

@@ -5,4 +5,4 @@ use Rattle.line.proofs.frame_words.Goals as goal
 pub returns : goal.returns
 unfolding framed
 returns c =
-    simp (c.sync_word-off.ensures, c.data_word.ensures, c.sync_word.ensures, c.lead_words.ensures)
+    simp (c.v_sync-on.ensures, c.sync_word-off.ensures, c.data_word.ensures, c.sync_word.ensures, c.lead_words.ensures)

@@ -1,20 +1,14 @@
--- `parity::compute_bch`: the register, from byte to byte, by the arms.
-use native.Mathlib.Omega.{arith}
+-- `parity::compute_bch`: the fold of the register over the bytes.
+use Rattle.std.proofs.Common.{arith, rules, tests, ◌∙◌}
+use Rattle.std.proofs.lemmas.Iterator.{YieldsList-from_slice}
+use Rattle.std.proofs.lemmas.Iterator.Consumers.{fold_from_yields_List}
 use Rattle.hdmi.proofs.Parity.{eight}
-use Rattle.parity.proofs.Running.{running_start, running_next, running_end}
+use Rattle.parity.proofs.Running.{onward, run_through}
 use Rattle.parity.proofs.compute_bch.Goals as goal
 
-pub loop-i-init : goal.loop-i-init
-loop-i-init c = running_start c.args.block.now
-
-pub loop-i-preserved : goal.loop-i-preserved
-unfolding eight
-loop-i-preserved c =
-    let l = c.loop-i in
-    let block = c.args.block.now in
-    running_next block l.i l.v l.invariant c.after_byte-v.result (omega arith) (omega (arith, c.type_inv.block l.i)) c.after_byte-v.ensures
-
 pub returns : goal.returns
+unfolding eight
 returns c =
-    let l = c.loop-i in
-    running_end c.args.block.now l.i l.v l.invariant (omega arith)
+    let block = c.args.block.now in
+    fold_from_yields_List _ onward 0 c.fold.result c.fold.ensures.ran (YieldsList-from_slice block (cc)) (λ a x b q k. search (rules, tests))
+    ∙ run_through block (λ i. omega (arith, c.type_inv.block i))

@@ -1,19 +1,19 @@
--- `parity::seal`: refused where the packet isn't 36 bytes, else sealed.
-use mathlib.Core.Path.{refl}
-use borrow.Author.Rules.{rules}
-use borrow.Author.Tests.{eq-eqb, ne_eqb}
+-- `parity::seal`: refused where the packet isn't 36 bytes, else five stores, none of which touches another block's data bytes.
+use mathlib.Core.Path.{refl, ap, ◌∙◌}
+use native.Mathlib.Omega.{arith}
+use borrow.Author.Tests.{eq-eqb}
 use lib.ListN.{length}
-use Rattle.hdmi.proofs.Parity.{eight}
-use Rattle.laws.proofs.Tables.{made_at}
+use Rattle.parity.proofs.Stores.{stored, stored_sealed}
 use Rattle.parity.proofs.seal.Goals as goal
-
-pub returns-then-packet-ne36 : goal.returns-then-packet-ne36
-returns-then-packet-ne36 c = rw (ne_eqb (length c.args.packet.now) 36 c.if-packet-ne36.true) (refl, refl)
-
-pub seal_blocks-requires : goal.seal_blocks-requires
-unfolding eight
-seal_blocks-requires c = (made_at eight 256, search rules)
 
 pub returns : goal.returns
 returns c =
-    rw (eq-eqb (length c.args.packet.now) 36 c.if-packet-ne36.false) (refl, c.seal_blocks.ensures)
+    let packet = c.args.packet.now in
+    let sealed =
+    c.seal_block-5.ensures
+    ∙ ap (stored 28 35)
+    (c.seal_block-4.ensures
+    ∙ ap (stored 20 27)
+    (c.seal_block-3.ensures ∙ ap (stored 12 19) (c.seal_block-2.ensures ∙ ap (stored 4 11) c.seal_block.ensures)))
+    ∙ stored_sealed packet (omega arith) in
+    rw (eq-eqb (length packet) 36 (omega arith)) (refl, sealed)

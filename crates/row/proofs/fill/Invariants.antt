@@ -1,11 +1,7 @@
 -- `fill` writes the whole row.
-use Rattle.std.proofs.Common.{◌≡◌, ◌-◌, ◌≤◌, length}
-use Rattle.charts.specs.Word.{unbiased, held, Field}
+use Rattle.charts.specs.Word.{unbiased, held}
 use Rattle.row.proofs.Turns.{Written}
 use Rattle.row.proofs.fill.Given as goal
 
 abbrev pub invariant-loop-i : goal.invariant-loop-i
-invariant-loop-i l = (l.i ≤ l.n) × (l.n ≡ length l.bytes) × (length l.out ≡ length l.bytes) × Field l.x × Written (unbiased (held l.start)) l.bytes l.out l.x l.i
-
-abbrev pub decreases-loop-i : goal.decreases-loop-i
-decreases-loop-i l = l.n - l.i
+invariant-loop-i g l = Written g.S.Store.width g.S.Store.stored (unbiased (held l.fn.lane.state)) l.bytes l.out (unbiased (held l.lane.state)) l.i

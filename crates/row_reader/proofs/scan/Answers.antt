@@ -1,36 +1,29 @@
 -- `scan` finds the first symbol that is no data symbol.
-use mathlib.Core.Path.{◌≡◌, sym, ap, ◌∙◌}
-use Prim.Native.Nat.{◌-◌}
-use native.Mathlib.Omega.{arith}
-use lib.ListN.{length}
-use Rattle.laws.specs.Search.{first}
-use Rattle.laws.proofs.Searching.{stop, go_on, end}
-use borrow.Author.Rules.{rules}
-use Rattle.row_reader.proofs.scan.Invariants.{bad}
+use Rattle.std.proofs.Common.{◌≡◌, length, get_or, sym, ap, ◌∙◌, arith}
+use borrow.Author.Tests.{eq-eqb, ne_eqb}
+use Rattle.dvi.specs.Decoder.{is_data}
+use Rattle.row_reader.proofs.Lookups.{data_more, refused_at, all_data}
 use Rattle.row_reader.proofs.scan.Goals as goal
+use Rattle.row_reader.proofs.scan.Goals.{After-is_data}
+
+-- what was asked of the symbol
+asked : (g : _) (c : After-is_data g) → is_data (get_or (g.S.Store.symbols c.args.lent.now) c.loop-i.i 0) ≡ c.is_data.result
+asked g c = sym (c.is_data.ensures ∙ ap is_data c.get.ensures)
 
 pub loop-i-init : goal.loop-i-init
-loop-i-init c =
-    let ss = c.args.symbols.now in
-    let whole : length ss ≡ length ss - 0 = omega arith in
-    (search rules, ap (first (bad ss) 0) whole)
+loop-i-init g c = c.settled-i.ensures.«data»
 
 pub returns-then-not-is_data : goal.returns-then-not-is_data
-returns-then-not-is_data c =
-    let l = c.loop-i in
-    let ss = c.args.symbols.now in
-    let e = sym c.is_data.ensures ∙ c.if-not-is_data.true in
-    sym (l.invariant.1 ∙ stop (bad ss) l.i (length ss) (omega arith) (simp e))
+returns-then-not-is_data g c =
+    let ss = g.S.Store.symbols c.args.lent.now in
+    let e = refused_at ss c.loop-i.i (omega arith) c.loop-i.invariant (asked g (goal.at.returns-then-not-is_data g c).After-is_data ∙ c.if-not-is_data.true) in
+    rw (e, ne_eqb c.loop-i.i (length ss) (λ h. omega arith))
 
 pub loop-i-preserved : goal.loop-i-preserved
-loop-i-preserved c =
-    let l = c.loop-i in
-    let ss = c.args.symbols.now in
-    let e = sym c.is_data.ensures ∙ c.if-not-is_data.false in
-    (omega arith, l.invariant.1 ∙ go_on (bad ss) l.i (length ss) (omega arith) (simp e))
+loop-i-preserved g c = data_more _ c.loop-i.i c.loop-i.invariant (asked g (goal.at.loop-i-preserved g c).After-is_data ∙ c.if-not-is_data.false)
 
 pub returns : goal.returns
-returns c =
-    let l = c.loop-i in
-    let ss = c.args.symbols.now in
-    sym (l.invariant.1 ∙ end (bad ss) l.i (length ss) c.loop-i-test.false)
+returns g c =
+    let ss = g.S.Store.symbols c.args.lent.now in
+    let i : c.loop-i.i ≡ length ss = omega (arith, c.settled-i.ensures.within) in
+    rw (eq-eqb _ _ (all_data ss (rw i at c.loop-i.invariant)))

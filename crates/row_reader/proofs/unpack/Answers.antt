@@ -1,22 +1,20 @@
--- `unpack` writes bytes of a scanned row.
-use mathlib.Core.Path.{ap, ◌∙◌}
-use native.Mathlib.Omega.{arith}
-use lib.ListN.{length-set}
+-- `unpack` writes the bytes of a scanned row.
+use Rattle.std.proofs.Common.{ℕ, ◌%◌, ap, ◌∙◌, arith}
 use Rattle.dvi.specs.Decoder.{byte_of}
-use Rattle.row_reader.proofs.Lookups.{data_low, unpacked_none, unpacked_more, unpacked_all}
-use borrow.Author.Rules.{rules}
+use Rattle.row_reader.proofs.Lookups.{data_low, unpacked_more, unpacked_all}
 use Rattle.row_reader.proofs.unpack.Goals as goal
 
 pub loop-i-init : goal.loop-i-init
-loop-i-init c = (search rules, search rules, unpacked_none _ _)
+loop-i-init g c = c.unpack_front-front.ensures.unpacked
 
 pub loop-i-preserved : goal.loop-i-preserved
-loop-i-preserved c =
+loop-i-preserved g c =
     let l = c.loop-i in
-    let ss = c.args.symbols.now in
-    (omega arith, simp length-set l.invariant.1, unpacked_more ss l.out l.i _ (omega arith) (omega arith) (c.byte_of.ensures ∙ ap byte_of (data_low _ (c.requires.1 l.i (omega arith)))) l.invariant.2)
+    let ss = g.S.Store.symbols c.args.lent.now in
+    let low = data_low _ (c.requires.«data» l.i (omega arith)) in
+    unpacked_more ss l.out l.i _ (omega arith) (omega arith) (c.byte_of.ensures ∙ ap byte_of (ap (λ (x : ℕ). x % 1024) c.get.ensures ∙ low)) l.invariant
 
 pub returns : goal.returns
-returns c =
+returns g c =
     let l = c.loop-i in
-    unpacked_all _ l.out l.i c.loop-i-test.false l.invariant.1 l.invariant.2
+    unpacked_all (g.S.Store.symbols c.args.lent.now) l.out l.i (omega arith) (omega arith) l.invariant

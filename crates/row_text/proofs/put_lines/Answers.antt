@@ -1,23 +1,13 @@
 -- `put_lines` stores a line for each symbol.
-use mathlib.Core.Path.{◌∙◌}
-use Prim.Native.Nat.{◌+◌, ◌*◌, ◌≤◌, ◌<◌}
-use native.Mathlib.Omega.{arith}
-use lib.ListN.{length, get_or}
-use lib.Seq.{length-sets}
-use Rattle.row_text.specs.Text.{line_of}
-use Rattle.row_text.proofs.Lines.{one_line_more, all_lines}
+use Rattle.std.proofs.Common.{◌∙◌, ◌+◌, ◌*◌, ◌-◌, ◌++◌, List, ℕ, length, take, ap, arith}
+use Rattle.std.proofs.lemmas.Slice.{take-put_mid}
+use Rattle.row_text.proofs.Lines.{one_line_more}
 use Rattle.row_text.proofs.put_lines.Goals as goal
 
 pub loop-i-preserved : goal.loop-i-preserved
 loop-i-preserved c =
     let l = c.loop-i in
-    let ss = c.args.symbols.now in
-    let e = c.put_line.ensures in
-    let h : l.i < length ss = omega arith in
-    let k : 4 * l.i + 4 ≤ length l.out = omega arith in
-    (omega arith, rw e (length-sets l.out (4 * l.i) (line_of (get_or ss l.i 0)) ∙ l.invariant.1), rw e (one_line_more ss l.out l.i h k ∙ l.invariant.2))
-
-pub returns : goal.returns
-returns c =
-    let l = c.loop-i in
-    all_lines _ l.out l.i c.loop-i-test.false l.invariant.1 l.invariant.2
+    let e = c.copy_from_slice.ensures.after ∙ c.line.ensures in
+    let n = ap (length {A = ℕ}) e in
+    let t = take-put_mid (4 * l.i) (4 * l.i + 4 - 4 * l.i) l.out c.copy_from_slice.new.self (4 * (l.i + 1)) (omega (arith, n)) (omega arith) in
+    one_line_more c.args.symbols.now l.out _ l.i c.loop-i-test.true (t ∙ ap (λ (x : List ℕ). take (4 * l.i) l.out ++ x) e) ∙ l.invariant

@@ -5,7 +5,8 @@ use lib.IntN.{pos}
 use mir.Syntax.{w32}
 use mir.Val.{of_z, SFits}
 use Rattle.dvi.proofs.Symbols.{range_fits, stays}
-use Rattle.symbol.specs.declared.PairEnd.{PairEnd}
+use Rattle.symbol.specs.declared.Encoded.{Encoded}
+use Rattle.symbol.specs.declared.TmdsPair.{TmdsPair}
 use Rattle.symbol.specs.Pair.{end_of}
 use Rattle.charts.proofs.Counting.{reads_zero, reads_other}
 use Rattle.symbol.proofs.TmdsPair.encode_pair.Goals as goal
@@ -17,11 +18,11 @@ pub returns-then-end-eq0 : goal.returns-then-end-eq0
 returns-then-end-eq0 c =
     let e = c.encode_pair_discrepancy-end.ensures in
     let z = reads_zero (end_of c.args.b0 c.args.b1) (end_fits _ _ c.ranges.b0.fits c.ranges.b1.fits)
-    (sym (ap (λ (p : PairEnd). of_z w32 p.discrepancy) e) ∙ c.if-end-eq0.true) in
+    (sym (ap (λ (p : Encoded TmdsPair). of_z w32 p.discrepancy) e) ∙ c.if-end-eq0.true) in
     rw (e, z)
 
 pub returns-else-end-eq0 : goal.returns-else-end-eq0
 returns-else-end-eq0 c =
     let e = c.encode_pair_discrepancy-end.ensures in
-    let z = reads_other (end_of c.args.b0 c.args.b1) (λ h. c.if-end-eq0.false (ap (λ (p : PairEnd). of_z w32 p.discrepancy) e ∙ h)) in
+    let z = reads_other (end_of c.args.b0 c.args.b1) (λ h. c.if-end-eq0.false (ap (λ (p : Encoded TmdsPair). of_z w32 p.discrepancy) e ∙ h)) in
     rw z

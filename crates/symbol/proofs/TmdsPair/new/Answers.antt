@@ -7,11 +7,11 @@ pub packed-requires : goal.packed-requires
 packed-requires c =
     let a = c.args.first.0 in
     let b = c.args.second.0 in
-    let t = true_T c.if-a-b.true in
+    let t = true_T c.if-first-second.true in
     (ltb→lt a 1024 (and_left (ltb a 1024) (ltb b 1024) t), ltb→lt b 1024 (and_right (ltb a 1024) (ltb b 1024) t))
 
-pub returns-then-a-b : goal.returns-then-a-b
-returns-then-a-b c = rw (c.if-a-b.true, c.packed.ensures)
+pub returns-then-first-second : goal.returns-then-first-second
+returns-then-first-second c = rw (c.if-first-second.true, c.packed.ensures)
 
-pub returns-else-a-b : goal.returns-else-a-b
-returns-else-a-b c = rw c.if-a-b.false
+pub returns-else-first-second : goal.returns-else-first-second
+returns-else-first-second c = rw c.if-first-second.false

@@ -1,9 +1,0 @@
--- `same_words` stays inside the case.
-use Rattle.std.proofs.Common.{length, ◌+◌, ◌-◌, ◌*◌, ◌≤◌}
-use Rattle.replay.proofs.numbers.same_words.Given as goal
-
-abbrev pub invariant-loop-i : goal.invariant-loop-i
-invariant-loop-i l = (l.i ≤ length l.words) × (l.at + 4 * length l.words ≤ length l.c)
-
-abbrev pub decreases-loop-i : goal.decreases-loop-i
-decreases-loop-i l = length l.words - l.i
