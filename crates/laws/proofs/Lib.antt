@@ -1,4 +1,3 @@
-pub mod Arms
 pub mod Bits
 pub mod Bytes
 pub mod Counting

@@ -1,4 +1,3 @@
-pub mod Arms
 pub mod Bit
 pub mod Bytes
 pub mod Count
