@@ -1,3 +1,4 @@
+pub mod Arms
 pub mod Bits
 pub mod Bytes
 pub mod Counting

@@ -1,3 +1,4 @@
+pub mod Arms
 pub mod Bit
 pub mod Bytes
 pub mod Count
