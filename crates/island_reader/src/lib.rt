@@ -1,7 +1,7 @@
 // The data island's reader: 36 words to the sync pair and the packet, or the first refusal.
 #![tactic(auto)]
 
-ghost use Rattle.std.specs.Prelude.{◌≡◌, false, true, [], ◌∷◌, ◌++◌, ℕ, ◌+◌, ◌-◌, ◌*◌, ◌/◌, ◌%◌, ◌<◌, length, ltb, get_or, MatchOption, position, leb};
+ghost use Rattle.std.specs.Prelude.{◌≡◌, false, true, [], ◌∷◌, ◌++◌, ℕ, ◌+◌, ◌-◌, ◌*◌, ◌/◌, ◌%◌, ◌<◌, length, ltb, get_or, MatchOption, OnOk, position, leb};
 ghost use Rattle.std.specs.Bool.{then_some};
 ghost use Rattle.laws.specs.Bit.{bit};
 ghost use Rattle.refusal.specs.declared.Refusal.TheVariants.{SyncBits};
@@ -75,15 +75,15 @@ fn numbers(word: u32) -> Option<u32>
     Some(a + 16 * b + 256 * c)
 }
 
-// The numbers of words 2 to 33, where every lane is TERC4.
-fn lanes(words: &[u32; 36]) -> Result<[u32; 32], Refusal>
-    ensures { result ≡ answered (verdict (lane_ask words.now ∷ [])) (Ok (numbers_in words.now)) Err }
+// Every lane of words 2 to 33 is TERC4; and their numbers, in room that is lent: handed on by value they would lie on the stack twice.
+fn lanes(words: &[u32; 36], found: &mut [u32; 32]) -> Result<(), Refusal>
+    ensures answer { result ≡ verdict (lane_ask words.now ∷ []) }
+    ensures read { OnOk result (found.new ≡ numbers_in words.now) }
 {
-    let mut found = [0; 32];
     for k in 0..32 {
         found[k] = numbers(words[2 + k]).ok_or(Refusal::NotTerc4(2 + k))?;
     }
-    Ok(found)
+    Ok(())
 }
 
 // Lane 0 has the sync pair and the marker in each of words 2 to 33. The pair is a number, as `read` answers it.
@@ -166,17 +166,15 @@ fn put_group(found: &[u32; 32], i: usize, packet: &mut [u8; 36])
 }
 
 // The packet's 36 bytes.
-fn unpack(found: &[u32; 32]) -> [u8; 36]
-    ensures { result ≡ packet_in found.now }
+fn unpack(found: &[u32; 32], packet: &mut [u8; 36])
+    ensures { packet.new ≡ packet_in found.now }
 {
-    let mut packet = [0; 36];
     for m in 0..4 {
         packet[m] = header_byte(found, m);
     }
     for i in 0..8 {
-        put_group(found, i, &mut packet);
+        put_group(found, i, packet);
     }
-    packet
 }
 
 // Whether the last byte of a block is the parity of those before it.
@@ -203,24 +201,19 @@ fn blocks(packet: &[u8; 36]) -> Result<(), Refusal>
     Ok(())
 }
 
-// What an island carries: the sync pair and the packet.
-#[derive(Clone, Copy)]
-struct Carried {
-    hv: u8,
-    packet: [u8; 36],
-}
-
-// All that is asked of 36 words; and where nothing is refused, what they carry.
-fn check(words: &[u32; 36]) -> Result<Carried, Refusal>
-    ensures { result ≡ answered (verdict (word_asks words.now ++ parity_asks (packet_found words.now))) (Ok (record { hv = pair_of (get_or words.now 0 0); packet = packet_found words.now })) Err }
+// All that is asked of 36 words; and where nothing is refused, their sync pair, with the packet in room that is lent.
+fn check(words: &[u32; 36], packet: &mut [u8; 36]) -> Result<u8, Refusal>
+    ensures answer { result ≡ answered (verdict (word_asks words.now ++ parity_asks (packet_found words.now))) (Ok (pair_of (get_or words.now 0 0))) Err }
+    ensures read { OnOk result (packet.new ≡ packet_found words.now) }
 {
     high_bits(words)?;
     let hv = guards(words)?;
-    let found = lanes(words)?;
+    let mut found = [0; 32];
+    lanes(words, &mut found)?;
     sync(hv, &found)?;
-    let packet = unpack(&found);
-    blocks(&packet)?;
-    Ok(Carried { hv, packet })
+    unpack(&found, packet);
+    blocks(packet)?;
+    Ok(hv)
 }
 
 // The sync pair and the packet of an island, or the first refusal, which leaves the packet as it was lent.
@@ -230,7 +223,8 @@ pub fn read(words: &[u32], packet: &mut [u8]) -> Result<u8, Refusal>
 {
     let words = words.as_array().ok_or(Refusal::Length)?;
     let room = packet.as_mut_array().ok_or(Refusal::Length)?;
-    let Carried { hv, packet } = check(words)?;
+    let mut packet = [0; 36];
+    let hv = check(words, &mut packet)?;
     *room = packet;
     Ok(hv)
 }

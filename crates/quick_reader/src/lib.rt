@@ -2,7 +2,7 @@
 // is believed, so nothing is proved. What isn't found right in this way goes to the reader that asks one question after the other.
 #![tactic(auto)]
 
-ghost use Rattle.std.specs.Prelude.{◌≡◌, ◌<◌, length, IsTrue};
+ghost use Rattle.std.specs.Prelude.{◌≡◌, ◌<◌, length, IsTrue, MatchOption};
 ghost use Rattle.island_reader.specs.Exact.{Encodes};
 ghost use Rattle.island_reader.specs.Read.{read_answer, read_out};
 ghost use Rattle.quick_reader.specs.Laid.{laid, right_blocks};
@@ -18,33 +18,21 @@ static SPREAD: [u8; 32] = [
     0, 84, 0, 0,
 ];
 
-// The marks of lanes 1 and 2, a byte for each, of all 36 words: from the first on, so that the loads are those of whole stores.
-fn marks(words: &[u32; 36]) -> [u32; 36] {
-    let mut marks = [0; 36];
-    for k in 0..36 {
-        let t = words[k] ^ ((words[k] >> 4) & 0x03f0fc3f);
-        marks[k] = ((t >> 12) & 0x1f) | ((t >> 14) & 0x1f00);
-    }
-    marks
-}
-
-// The bits of two numbers, each two apart, as bit pairs.
-fn paired(lane_1: u8, lane_2: u8) -> u64 {
+// The numbers on lanes 1 and 2 of a word, each bit two apart, as bit pairs.
+fn pairs(word: u32) -> u64 {
+    let marks = word ^ ((word >> 4) & 0x03f0fc3f);
+    let lane_1 = SPREAD[((marks >> 12) % 32) as usize];
+    let lane_2 = SPREAD[((marks >> 22) % 32) as usize];
     u64::from(lane_1) + 2 * u64::from(lane_2)
 }
 
 // The bit pairs of every fourth character from j on, a byte for each.
-fn row(marks: &[u32; 36], j: usize) -> u64
+fn row(words: &[u32; 36], j: usize) -> u64
     requires { j < 4 }
 {
     let mut row = 0;
     for i in (0..8).rev() {
-        let mark = marks[2 + 4 * i + j];
-        let pairs = paired(
-            SPREAD[(mark % 32) as usize],
-            SPREAD[((mark >> 8) % 32) as usize],
-        );
-        row = (row << 8) | pairs;
+        row = (row << 8) | pairs(words[2 + 4 * i + j]);
     }
     row
 }
@@ -88,13 +76,7 @@ struct Guess {
 impl Guess {
     fn of(words: &[u32; 36]) -> Guess {
         let hv = guessed_pair(words[0]);
-        let marks = marks(words);
-        let rows = [
-            row(&marks, 0),
-            row(&marks, 1),
-            row(&marks, 2),
-            row(&marks, 3),
-        ];
+        let rows = [row(words, 0), row(words, 1), row(words, 2), row(words, 3)];
         Guess {
             hv,
             header: guessed_header(hv, words),
@@ -135,6 +117,21 @@ impl Guess {
     }
 }
 
+// The sync pair of an island whose guess is right, with the packet laid down; else the packet stays. Not inlined: its scratch is off the stack before the
+// other reader is asked, which a Cortex-M33 needs to read an island in the 768 bytes that include/chaffrail.h promises.
+#[inline(never)]
+fn known(words: &[u32; 36], packet: &mut [u8]) -> Option<u8>
+    requires { length packet.old ≡ 36 }
+    ensures { MatchOption result (packet.new ≡ packet.old) (λ hv. Encodes hv packet.new words.now) }
+{
+    let guess = Guess::of(words);
+    if !guess.is_right(words) {
+        return None;
+    }
+    guess.lay(packet);
+    Some(guess.hv)
+}
+
 // The sync pair and the packet of an island, or the first refusal, which leaves the packet as it was lent.
 pub fn read(words: &[u32], packet: &mut [u8]) -> Result<u8, Refusal>
     ensures answer { result ≡ read_answer words.now packet.old }
@@ -142,10 +139,8 @@ pub fn read(words: &[u32], packet: &mut [u8]) -> Result<u8, Refusal>
 {
     let island = words.as_array().ok_or(Refusal::Length)?;
     if packet.len() == 36 {
-        let guess = Guess::of(island);
-        if guess.is_right(island) {
-            guess.lay(packet);
-            return Ok(guess.hv);
+        if let Some(hv) = known(island, packet) {
+            return Ok(hv);
         }
     }
     island_reader::read(words, packet)

@@ -1,15 +1,14 @@
 -- `island_reader::check` meets its contract.
-use mathlib.Core.Path.{◌≡◌, sym, ap, ap₂, ◌∙◌}
+use mathlib.Core.Path.{◌≡◌, sym, ap, ap₂, subst, ◌∙◌}
 use mathlib.Core.Bool.{false}
 use mathlib.Core.List.{List, [], ◌∷◌}
 use Prim.Native.Nat.{ℕ, ◌+◌, ◌<◌}
 use native.Mathlib.Omega.{arith}
 use lib.ListN.{get_or}
-use Rattle.std.specs.Prelude.{Result, Ok, Err}
+use Rattle.std.specs.Prelude.{Result, Ok, Err, OnOk}
 use Rattle.refusal.specs.declared.Refusal.{Refusal}
 use Rattle.refusal.specs.declared.Refusal.TheVariants.{SyncBits}
 use Rattle.refusal.specs.Verdict.{Verdict, verdict, answered}
-use Rattle.island_reader.specs.declared.Carried.{Carried}
 use Rattle.island_reader.specs.Found.{unread, packet_found}
 use Rattle.island_reader.specs.Numbers.{numbers_in, packet_in, sync_unlike}
 use Rattle.island_reader.specs.Read.{nowhere, high_ask, guard_ask, lane_ask, sync_ask, parity_asks}
@@ -18,12 +17,9 @@ use Rattle.island_reader.proofs.Chain.{hv, all_asks, handed_on, answered_err, an
 use Rattle.island_reader.proofs.check.Goals as goal
 
 module _ (ws : List ℕ) where
-  abbrev carried : Carried
-  carried = record { hv = hv ws; packet = packet_found ws }
-
   -- a refusal is handed on
-  refuses : {v : Result Carried Refusal} {r : Refusal} → v ≡ Err r → verdict (all_asks ws) ≡ Err r → v ≡ answered (verdict (all_asks ws)) (Ok carried) Err
-  refuses d e = d ∙ ap (λ (v : Verdict). answered v (Ok carried) Err) (sym e)
+  refuses : {v : Result ℕ Refusal} {r : Refusal} → v ≡ Err r → verdict (all_asks ws) ≡ Err r → v ≡ answered (verdict (all_asks ws)) (Ok (hv ws)) Err
+  refuses d e = d ∙ ap (λ (v : Verdict). answered v (Ok (hv ws)) Err) (sym e)
 
   -- what is known behind the guard words, and behind the lanes
   pair_lt : verdict (guard_ask (hv ws) ws ∷ []) ≡ Ok tt → hv ws < 4
@@ -42,28 +38,28 @@ module _ (ws : List ℕ) where
     unpacked : packet_in found ≡ packet_found ws
     unpacked = ap packet_in (sym df) ∙ packet_agrees ws (clean l)
 
-pub returns-in_err-high_bits : goal.returns-in_err-high_bits
-returns-in_err-high_bits c =
+pub returns-in_err-high_bits-clause-answer : goal.returns-in_err-high_bits-clause-answer
+returns-in_err-high_bits-clause-answer c =
     let ws : List ℕ = c.args.words.now in
     let e = first_refuses (high_ask ws) (guard_ask (hv ws) ws ∷ lane_ask ws ∷ sync_ask (hv ws) ws ∷ []) (sym c.high_bits.ensures ∙ c.in_err-high_bits.was) in
     refuses ws (handed_on c.from_residual.result _ c.from_residual.ensures.1) (words_refuse ws e)
 
-pub returns-in_err-hv : goal.returns-in_err-hv
-returns-in_err-hv c =
+pub returns-in_err-hv-clause-answer : goal.returns-in_err-hv-clause-answer
+returns-in_err-hv-clause-answer c =
     let ws : List ℕ = c.args.words.now in
     let x = sym c.high_bits.ensures ∙ c.in_ok-high_bits.was in
     let g = answered_err (verdict (guard_ask (hv ws) ws ∷ [])) (hv ws) _ (sym c.guards.ensures ∙ c.in_err-hv.was) in
     let e = second_refuses (high_ask ws) (guard_ask (hv ws) ws) (lane_ask ws) (sync_ask (hv ws) ws) x g in
     refuses ws (handed_on c.from_residual-in_err-hv.result _ c.from_residual-in_err-hv.ensures.1) (words_refuse ws e)
 
-pub returns-in_err-found : goal.returns-in_err-found
-returns-in_err-found c =
+pub returns-in_err-lanes-clause-answer : goal.returns-in_err-lanes-clause-answer
+returns-in_err-lanes-clause-answer c =
     let ws : List ℕ = c.args.words.now in
     let x = sym c.high_bits.ensures ∙ c.in_ok-high_bits.was in
     let g = answered_ok (verdict (guard_ask (hv ws) ws ∷ [])) (hv ws) _ (sym c.guards.ensures ∙ c.in_ok-hv.was) in
-    let l = answered_err (verdict (lane_ask ws ∷ [])) (numbers_in ws) _ (sym c.lanes.ensures ∙ c.in_err-found.was) in
+    let l = sym c.lanes.ensures.answer ∙ c.in_err-lanes.was in
     let e = third_refuses (high_ask ws) (guard_ask (hv ws) ws) (lane_ask ws) (sync_ask (hv ws) ws) x g.0 l in
-    refuses ws (handed_on c.from_residual-in_err-found.result _ c.from_residual-in_err-found.ensures.1) (words_refuse ws e)
+    refuses ws (handed_on c.from_residual-in_err-lanes.result _ c.from_residual-in_err-lanes.ensures.1) (words_refuse ws e)
 
 pub sync-requires : goal.sync-requires
 sync-requires c =
@@ -71,25 +67,27 @@ sync-requires c =
     let g = answered_ok (verdict (guard_ask (hv ws) ws ∷ [])) (hv ws) _ (sym c.guards.ensures ∙ c.in_ok-hv.was) in
     omega (arith, pair_lt ws g.0, g.1)
 
-pub returns-in_err-sync : goal.returns-in_err-sync
-returns-in_err-sync c =
+pub returns-in_err-sync-clause-answer : goal.returns-in_err-sync-clause-answer
+returns-in_err-sync-clause-answer c =
     let ws : List ℕ = c.args.words.now in
     let x = sym c.high_bits.ensures ∙ c.in_ok-high_bits.was in
     let g = answered_ok (verdict (guard_ask (hv ws) ws ∷ [])) (hv ws) _ (sym c.guards.ensures ∙ c.in_ok-hv.was) in
-    let l = answered_ok (verdict (lane_ask ws ∷ [])) (numbers_in ws) _ (sym c.lanes.ensures ∙ c.in_ok-found.was) in
-    let s = sym (c.sync.ensures ∙ synced ws g.0 l.0 g.1 l.1) ∙ c.in_err-sync.was in
-    let e = fourth_decides (high_ask ws) (guard_ask (hv ws) ws) (lane_ask ws) (sync_ask (hv ws) ws) x g.0 l.0 ∙ s in
+    let l = sym c.lanes.ensures.answer ∙ c.in_ok-lanes.was in
+    let n = sym (subst (λ (v : Verdict). OnOk v (c.lanes.new.found ≡ numbers_in ws)) c.in_ok-lanes.was c.lanes.ensures.read) in
+    let s = sym (c.sync.ensures ∙ synced ws g.0 l g.1 n) ∙ c.in_err-sync.was in
+    let e = fourth_decides (high_ask ws) (guard_ask (hv ws) ws) (lane_ask ws) (sync_ask (hv ws) ws) x g.0 l ∙ s in
     refuses ws (handed_on c.from_residual-in_err-sync.result _ c.from_residual-in_err-sync.ensures.1) (words_refuse ws e)
 
-pub returns-in_err-blocks : goal.returns-in_err-blocks
-returns-in_err-blocks c =
+pub returns-in_err-blocks-clause-answer : goal.returns-in_err-blocks-clause-answer
+returns-in_err-blocks-clause-answer c =
     let ws : List ℕ = c.args.words.now in
     let x = sym c.high_bits.ensures ∙ c.in_ok-high_bits.was in
     let g = answered_ok (verdict (guard_ask (hv ws) ws ∷ [])) (hv ws) _ (sym c.guards.ensures ∙ c.in_ok-hv.was) in
-    let l = answered_ok (verdict (lane_ask ws ∷ [])) (numbers_in ws) _ (sym c.lanes.ensures ∙ c.in_ok-found.was) in
-    let s = sym (c.sync.ensures ∙ synced ws g.0 l.0 g.1 l.1) ∙ c.in_ok-sync.was in
-    let e = fourth_decides (high_ask ws) (guard_ask (hv ws) ws) (lane_ask ws) (sync_ask (hv ws) ws) x g.0 l.0 ∙ s in
-    let p = c.unpack-packet.ensures ∙ unpacked ws g.0 l.0 g.1 l.1 in
+    let l = sym c.lanes.ensures.answer ∙ c.in_ok-lanes.was in
+    let n = sym (subst (λ (v : Verdict). OnOk v (c.lanes.new.found ≡ numbers_in ws)) c.in_ok-lanes.was c.lanes.ensures.read) in
+    let s = sym (c.sync.ensures ∙ synced ws g.0 l g.1 n) ∙ c.in_ok-sync.was in
+    let e = fourth_decides (high_ask ws) (guard_ask (hv ws) ws) (lane_ask ws) (sync_ask (hv ws) ws) x g.0 l ∙ s in
+    let p = c.unpack.ensures ∙ unpacked ws g.0 l g.1 n in
     let b = sym (c.blocks-2.ensures ∙ ap (λ (p : List ℕ). verdict (parity_asks p)) p) ∙ c.in_err-blocks.was in
     refuses ws (handed_on c.from_residual-in_err-blocks.result _ c.from_residual-in_err-blocks.ensures.1) (words_pass ws e ∙ b)
 
@@ -98,9 +96,10 @@ returns c =
     let ws : List ℕ = c.args.words.now in
     let x = sym c.high_bits.ensures ∙ c.in_ok-high_bits.was in
     let g = answered_ok (verdict (guard_ask (hv ws) ws ∷ [])) (hv ws) _ (sym c.guards.ensures ∙ c.in_ok-hv.was) in
-    let l = answered_ok (verdict (lane_ask ws ∷ [])) (numbers_in ws) _ (sym c.lanes.ensures ∙ c.in_ok-found.was) in
-    let s = sym (c.sync.ensures ∙ synced ws g.0 l.0 g.1 l.1) ∙ c.in_ok-sync.was in
-    let e = fourth_decides (high_ask ws) (guard_ask (hv ws) ws) (lane_ask ws) (sync_ask (hv ws) ws) x g.0 l.0 ∙ s in
-    let p = c.unpack-packet.ensures ∙ unpacked ws g.0 l.0 g.1 l.1 in
+    let l = sym c.lanes.ensures.answer ∙ c.in_ok-lanes.was in
+    let n = sym (subst (λ (v : Verdict). OnOk v (c.lanes.new.found ≡ numbers_in ws)) c.in_ok-lanes.was c.lanes.ensures.read) in
+    let s = sym (c.sync.ensures ∙ synced ws g.0 l g.1 n) ∙ c.in_ok-sync.was in
+    let e = fourth_decides (high_ask ws) (guard_ask (hv ws) ws) (lane_ask ws) (sync_ask (hv ws) ws) x g.0 l ∙ s in
+    let p = c.unpack.ensures ∙ unpacked ws g.0 l g.1 n in
     let b = sym (c.blocks-2.ensures ∙ ap (λ (p : List ℕ). verdict (parity_asks p)) p) ∙ c.in_ok-blocks.was in
-    ap₂ (λ (h : ℕ) (p : List ℕ). Ok (record { hv = h; packet = p })) (sym g.1) p ∙ ap (λ (v : Verdict). answered v (Ok (carried ws)) Err) (sym (words_pass ws e ∙ b))
+    record { answer = ap Ok (sym g.1) ∙ ap (λ (v : Verdict). answered v (Ok (hv ws)) Err) (sym (words_pass ws e ∙ b)); read = p }

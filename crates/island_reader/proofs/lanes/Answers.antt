@@ -1,15 +1,15 @@
 -- `island_reader::lanes` meets its contract.
-use mathlib.Core.Path.{◌≡◌, sym, ap, ◌∙◌}
+use mathlib.Core.Path.{◌≡◌, sym, ap, subst, ◌∙◌}
 use mathlib.Core.Bool.{false}
 use mathlib.Core.List.{List}
 use Prim.Native.Nat.{ℕ, ◌+◌}
 use native.Mathlib.Omega.{arith}
 use borrow.Author.Count.{below_more}
 use lib.ListN.{get_or}
-use Rattle.std.specs.Prelude.{Ok, Err}
+use Rattle.std.specs.Prelude.{Err, OnOk}
 use Rattle.laws.proofs.Fronts.{front_none, front_more, front_all}
 use Rattle.refusal.specs.declared.Refusal.TheVariants.{NotTerc4}
-use Rattle.refusal.specs.Verdict.{Verdict, answered}
+use Rattle.refusal.specs.Verdict.{Verdict}
 use Rattle.island_reader.specs.Found.{unread}
 use Rattle.island_reader.specs.Numbers.{numbers_in}
 use Rattle.island_reader.specs.Read.{lane_wrong}
@@ -29,7 +29,8 @@ returns-in_err-found c =
     let said = rw c.in_err-found.ensures.ok_part at c.in_err-found.ensures.value in
     let same : c.in_err-found.field-0.0 ≡ NotTerc4 (2 + k) = cc in
     let at = refused_first (lane_wrong ws) 2 32 NotTerc4 (2 + k) (omega arith) (omega arith) none (clean_words ws k c.loop-k.invariant.clean) in
-    handed_on c.from_residual.result _ c.from_residual.ensures.1 ∙ ap Err same ∙ ap (λ (v : Verdict). answered v (Ok (numbers_in ws)) Err) (sym at)
+    let refused = handed_on c.from_residual.result _ c.from_residual.ensures.1 in
+    record { answer = refused ∙ ap Err same ∙ sym at; read = subst (λ (r : Verdict). OnOk r (c.loop-k.found ≡ numbers_in ws)) (sym refused) tt }
 
 pub loop-k-preserved : goal.loop-k-preserved
 loop-k-preserved c =
@@ -45,5 +46,7 @@ pub returns : goal.returns
 returns c =
     let ws : List ℕ = c.args.words.now in
     let l = c.loop-k in
-    let at = refused_none (lane_wrong ws) 2 32 NotTerc4 (λ j a b. clean_words ws l.k l.invariant.clean j a (omega arith)) in
-    ap Ok (front_all (numbers_in ws) l.found l.k (omega (arith, length_numbers ws)) l.invariant.front) ∙ ap (λ (v : Verdict). answered v (Ok (numbers_in ws)) Err) (sym at)
+    record {
+      answer = sym (refused_none (lane_wrong ws) 2 32 NotTerc4 (λ j a b. clean_words ws l.k l.invariant.clean j a (omega arith)));
+      read = front_all (numbers_in ws) l.found l.k (omega (arith, length_numbers ws)) l.invariant.front;
+    }

@@ -1,5 +1,5 @@
 -- `island_reader::unpack` meets its contract.
-use mathlib.Core.Path.{◌≡◌, refl, subst}
+use mathlib.Core.Path.{◌≡◌, subst}
 use mathlib.Core.List.{List}
 use Prim.Native.Nat.{ℕ}
 use native.Mathlib.Omega.{arith}
@@ -8,7 +8,7 @@ use Rattle.island_reader.proofs.Unpacking.{headed_more, headed_all, all_unpacked
 use Rattle.island_reader.proofs.unpack.Goals as goal
 
 pub loop-m-init : goal.loop-m-init
-loop-m-init c = record { long = refl; head = λ k h. absurd (omega arith) }
+loop-m-init c = record { long = c.told-packet; head = λ k h. absurd (omega arith) }
 
 pub loop-m-preserved : goal.loop-m-preserved
 loop-m-preserved c =
