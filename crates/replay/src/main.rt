@@ -14,6 +14,7 @@ ghost use Rattle.std.specs.Io.{ReadsAtMost};
 use kinds::{KINDS, Kind};
 use std::io;
 use std::io::{Print, Read};
+use text::Bytes;
 
 // How many cases of a kind agree, and how many don't.
 #[derive(Clone, Copy, Debug, PartialEq, Eq)]
@@ -69,14 +70,20 @@ fn say_line(rt: &impl Print, number: u64, kind: &[u8], what: &str) -> io::Result
 }
 
 // One case. One that doesn't agree is said where it is the first of its kind or can't be read.
-fn case(rt: &impl Print, number: u64, line: &[u8], tally: &mut Tally) -> io::Result<()> {
+fn case(
+    rt: &impl Print,
+    number: u64,
+    line: &[u8],
+    bytes: &mut Bytes,
+    tally: &mut Tally,
+) -> io::Result<()> {
     let end = line.iter().position(|b| *b == b' ').unwrap_or(line.len());
     let (name, spelled) = line.split_at(end);
     let Some(kind) = Kind::named(name) else {
         tally.unread();
         return say_line(rt, number, name, "is no kind of case");
     };
-    let Some(bytes) = text::read_hex(spelled) else {
+    let Some(()) = text::read_hex(spelled, bytes) else {
         tally.differed(kind);
         return say_line(rt, number, name, "is malformed");
     };
@@ -95,11 +102,12 @@ fn case(rt: &impl Print, number: u64, line: &[u8], tally: &mut Tally) -> io::Res
 // Each line but the comments.
 fn replay(rt: &impl Print, list: &[u8], tally: &mut Tally) -> io::Result<()> {
     let mut number = 0u64;
+    let mut bytes = Bytes::new();
     for ended in list.split_inclusive(|b| *b == b'\n') {
         number = number.wrapping_add(1);
         let line = ended.strip_suffix(b"\n").unwrap_or(ended);
         if line.first() != Some(&b'#') {
-            case(rt, number, line, tally)?;
+            case(rt, number, line, &mut bytes, tally)?;
         }
     }
     Ok(())

@@ -24,9 +24,10 @@ fn byte(high: u8, low: u8) -> Option<u8> {
     Some(16 * h + l)
 }
 
-// Bytes of two digits each; spaces between bytes say nothing. None where the text spells anything else, or more bytes than there is room for.
-pub fn read_hex(text: &[u8]) -> Option<Bytes> {
-    let mut bytes = Bytes::new();
+// Bytes of two digits each, to the room, which is lent so that its 4,096 bytes needn't be filled or moved for each case; spaces between bytes say nothing.
+// None where the text spells anything else, or more bytes than there is room for.
+pub fn read_hex(text: &[u8], bytes: &mut Bytes) -> Option<()> {
+    bytes.clear();
     for word in text.split(|b| *b == b' ') {
         let (pairs, rest) = word.as_chunks::<2>();
         if !rest.is_empty() {
@@ -36,5 +37,5 @@ pub fn read_hex(text: &[u8]) -> Option<Bytes> {
             bytes.try_push(byte(pair[0], pair[1])?).ok()?;
         }
     }
-    Some(bytes)
+    Some(())
 }
