@@ -4,7 +4,7 @@
 ghost use Rattle.std.specs.Prelude.{◌≡◌, ◌≤◌, take, get_or};
 ghost use Rattle.refusal.specs.Verdict.{verdict, kept};
 ghost use Rattle.hdmi.specs.Parity.{parity};
-ghost use Rattle.hdmi.specs.Info.{frequency_code, audio_info_frame, avi_info_frame, info_frame};
+ghost use Rattle.hdmi.specs.Info.{frequency_code, active_present, audio_info_frame, avi_info_frame, info_frame};
 ghost use Rattle.fields.specs.ScanInfo.{scan_number};
 ghost use Rattle.fields.specs.PixelFormat.{pixel_number};
 ghost use Rattle.fields.specs.Colorimetry.{color_number};
@@ -58,7 +58,12 @@ pub fn set_avi_info_frame(
     if packet.len() != 36 {
         return Err(Refusal::Length);
     }
-    AviFields::from_numbers(s, y, c, m, r, q, v)?.write(packet)
+    // Of the fields it is only asked whether there are such; the frame is made of the numbers that came, which saves taking them from the fields again.
+    let _ = AviFields::from_numbers(s, y, c, m, r, q, v)?;
+    let present = u8::from(r != 0);
+    write_avi(
+        packet, s as u8, y as u8, c as u8, m as u8, r as u8, present, q as u8, v as u8,
+    )
 }
 
 // AVI info from fields, each a parameter, as in data_island.rs.
@@ -122,23 +127,48 @@ impl AviFields {
         })
     }
 
-    #[tactic(auto, using(hdmi::proofs::Figures::header_82_2_13))]
     fn write(self, packet: &mut [u8]) -> Result<(), Refusal>
         ensures { (result ≡ verdict (packet_asks packet.old)) × (packet.new ≡ kept (verdict (packet_asks packet.old)) (frame_of self) packet.old) }
     {
-        let b1 = self.scan.number()
-            + 16 * self.active_aspect.present()
-            + 32 * self.pixel_format.number();
-        let b2 = self.active_aspect.number()
-            + 16 * self.picture_aspect.number()
-            + 64 * self.colorimetry.number();
-        let b3 = 4 * self.quantization.number();
-        let b4 = self.video_code.number();
-        write_info_frame(packet, [0x82, 2, 13, 0xe4], [b1, b2, b3, b4])
+        write_avi(
+            packet,
+            self.scan.number(),
+            self.pixel_format.number(),
+            self.colorimetry.number(),
+            self.picture_aspect.number(),
+            self.active_aspect.number(),
+            self.active_aspect.present(),
+            self.quantization.number(),
+            self.video_code.number(),
+        )
     }
 }
 
-// An info frame with this header (type, version, length and their parity byte) and these data bytes, 1 to 4. The others are 0.
+// The AVI info frame of numbers that are its fields', and whether r says anything.
+#[tactic(auto, using(hdmi::proofs::Figures::header_82_2_13))]
+fn write_avi(
+    packet: &mut [u8],
+    s: u8,
+    y: u8,
+    c: u8,
+    m: u8,
+    r: u8,
+    present: u8,
+    q: u8,
+    v: u8,
+) -> Result<(), Refusal>
+    requires bounds { (s ≤ 2) × (y ≤ 2) × (c ≤ 3) × (m ≤ 2) × (r ≤ 11) × (q ≤ 2) × (v ≤ 2) }
+    requires flag { present ≡ active_present r }
+    ensures { (result ≡ verdict (packet_asks packet.old)) × (packet.new ≡ kept (verdict (packet_asks packet.old)) (avi_info_frame s y c m r q v) packet.old) }
+{
+    let b1 = s + 16 * present + 32 * y;
+    let b2 = r + 16 * m + 64 * c;
+    write_info_frame(packet, [0x82, 2, 13, 0xe4], [b1, b2, 4 * q, v])
+}
+
+// An info frame with this header (type, version, length and their parity byte) and these data bytes, 1 to 4. The others are 0. Inlined, so that the
+// header's part of the sum is reckoned when it is compiled.
+#[inline(always)]
 fn write_info_frame(packet: &mut [u8], header: [u8; 4], bytes: [u8; 4]) -> Result<(), Refusal>
     requires { parity (take 3 header) ≡ get_or header 3 0 }
     ensures { (result ≡ verdict (packet_asks packet.old)) × (packet.new ≡ kept (verdict (packet_asks packet.old)) (info_frame (take 3 header) bytes) packet.old) }
