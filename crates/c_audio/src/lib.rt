@@ -7,7 +7,7 @@ ghost use Rattle.refusal.specs.Verdict.{verdict, answered, kept, handed_back};
 ghost use Rattle.audio.specs.Asks.{audio_asks};
 ghost use Rattle.c_audio.specs.Samples.{samples_in, count_of, packet_out, counted};
 
-use crossing::Answer;
+use crossing::{Answer, signed_16};
 use refusal::{Refusal, Refused};
 
 // The samples of up to sixteen bytes, and zeros behind them: scratch of a fixed size, since there is no heap.
@@ -17,7 +17,7 @@ fn samples_of(lent: &[u8]) -> [i16; 8]
 {
     let mut samples = [0i16; 8];
     for i in 0..lent.len() / 2 {
-        samples[i] = u16::from_le_bytes([lent[2 * i], lent[2 * i + 1]]).cast_signed();
+        samples[i] = signed_16(u16::from_le_bytes([lent[2 * i], lent[2 * i + 1]]));
     }
     samples
 }

@@ -37,7 +37,10 @@ fn island_ready(t: DviTiming, state: u8) -> Result<DviTimingLineState, Refusal>
     let Ok(_) = decided else {
         return decided;
     };
-    t.checked().and(decided)
+    let Err(refusal) = t.checked() else {
+        return decided;
+    };
+    Err(refusal)
 }
 
 fn v_sync(state: DviTimingLineState) -> bool

@@ -1,5 +1,5 @@
 -- The number and the place of each refusal: the table, as a definition.
-use Rattle.std.specs.Prelude.{ℕ}
+use Rattle.std.specs.Prelude.{ℕ, List, ◌++◌, codes, decimal}
 use Rattle.refusal.specs.declared.Refusal.{Refusal}
 use Rattle.refusal.specs.declared.Refusal.TheVariants.{Length, Discrepancy, SyncPair, Unlisted, FrameCount, ClockValue, TimingRange, LineCounter, LineOffset, Unbalanced, NotData, HighBits, GuardWord, NotTerc4, SyncBits, HeaderParity, SubpacketParity}
 
@@ -41,3 +41,7 @@ place_of (NotTerc4 i) = i
 place_of (SyncBits i) = i
 place_of HeaderParity = 0
 place_of (SubpacketParity s) = s
+
+-- how a refusal is printed: its number and its place
+abbrev pub refusal_text : Refusal → List ℕ
+refusal_text r = codes "refusal " ++ (decimal (number_of r) ++ (codes " at " ++ decimal (place_of r)))

@@ -1,8 +1,8 @@
 // The seventeen refusals: what an entry answers where it refuses, with what it hands back.
 #![tactic(auto)]
 
-ghost use Rattle.std.specs.Prelude.{◌≡◌};
-ghost use Rattle.refusal.specs.Refusal.{number_of, place_of};
+ghost use Rattle.std.specs.Prelude.{◌≡◌, Some};
+ghost use Rattle.refusal.specs.Refusal.{number_of, place_of, refusal_text};
 ghost use Rattle.refusal.specs.Verdict.{verdict_number, verdict_place, handed_back};
 
 use std::error::Error;
@@ -144,6 +144,8 @@ impl<T: Drop> From<Refused<T>> for Refusal {
 }
 
 impl fmt::Display for Refusal {
+    ghost output = { λ r. Some (refusal_text r) };
+
     fn fmt<W: fmt::Write>(&self, f: &mut fmt::Formatter<W>) -> fmt::Result {
         write!(f, "refusal {} at {}", self.number(), self.place())
     }

@@ -23,7 +23,7 @@ loop-i-preserved c =
     let stands : l.i < length (samples_in lent) = omega arith in
     let bits : c.from_le_bytes.result ≡ from_low (take 2 (drop (2 * l.i) lent)) =
     omega (arith, c.from_le_bytes.ensures, two_bytes lent (2 * l.i) (2 * l.i + 1) refl (omega arith)) in
-    let v = to_z-of_z {w = w16} (sfits_of c.cast_signed.type_inv) ∙ c.cast_signed.ensures ∙ ap (to_z w16) bits ∙ sym (sample_of lent l.i h) in
+    let v = to_z-of_z {w = w16} (sfits_of c.signed_16.type_inv) ∙ c.signed_16.ensures ∙ ap (to_z w16) bits ∙ sym (sample_of lent l.i h) in
     (simp length-set l.invariant.0, one_more (samples_in lent) l.samples l.i _ stands room l.invariant.1 v)
 
 pub returns : goal.returns
