@@ -6,12 +6,11 @@ HEADS is a module of the board's triple, of which the data layout and the triple
   2. of the exported functions, which make slices and hand on to the proved ones: a length is a size_t of 32 bits, widened with zeros where the slice
      is made, and an answer of 16 bytes goes where the caller says, as the C conventions of Arm and RISC-V have it, and not into two registers.
   3. in every other function: the kit lays what is behind a pointer 8 bytes on, as 64 bits have it, and so it lies on a board too. An aggregate of which a
-     part would lie elsewhere on a board, as the pointer of an `Option<&T>`, is loaded and stored part by part, each where the kit has it. And an address
-     that is taken for a number has 32 bits, widened with zeros.
+     part would lie elsewhere on a board, as the pointer of an `Option<&T>`, is loaded and stored part by part, each where the kit has it.
 A timing by value (byval) and VGA's timing (a pointer handed in and back) are what those conventions have already.
 
 An exported function whose lines aren't all of known form is refused, and so is a module in which anything else would change or x86-64 is still named, or
-which has an aggregate with a pointer in a place that isn't known.
+which has an aggregate with a pointer in a place that isn't known, or an address that is taken for a number.
 """
 import re
 import sys
@@ -89,7 +88,7 @@ def crossing(function):
 AGGREGATE = re.compile(r"\{ [^{}]* \}")
 LOADED = re.compile(r"^  (%\w+) = load (\{ [^{}]* \}), ptr (%\w+), align (\d+)$")
 STORED = re.compile(r"^  store (\{ [^{}]* \}) (%\w+), ptr (%\w+), align (\d+)$")
-ADDRESS = re.compile(r"^  (%\w+) = ptrtoaddr ptr (%\w+) to i64$")
+ADDRESS = re.compile(r"\bptrto(addr|int)\b")
 # As values, aggregates have no layout.
 VALUES = re.compile(r"^(?:define|declare|  (?:%\w+ = )?(?:tail )?(?:call|extractvalue|insertvalue|phi|select|ret)) ")
 
@@ -137,11 +136,11 @@ def at_32_bits(lines):
     """The lines of a function that isn't exported, for a board."""
     out = []
     for line in lines:
-        loaded, stored, address = LOADED.match(line), STORED.match(line), ADDRESS.match(line)
+        loaded, stored = LOADED.match(line), STORED.match(line)
         elsewhere = [a for a in AGGREGATE.findall(line) if lies_elsewhere(a)]
-        if address:
-            out += [f"  {address[1]}.32 = ptrtoaddr ptr {address[2]} to i32", f"  {address[1]} = zext i32 {address[1]}.32 to i64"]
-        elif not elsewhere or VALUES.match(line):
+        if ADDRESS.search(line):
+            raise Refused(f"an address that is taken for a number: {line}")
+        if not elsewhere or VALUES.match(line):
             out.append(line)
         elif loaded:
             out += part_by_part(line, loaded[2], loaded[1], loaded[3], loaded[4])

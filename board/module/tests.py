@@ -231,8 +231,8 @@ class Retarget(unittest.TestCase):
         for line in ("  %r2 = extractvalue { i8, ptr } %r1, 1", "  %r1 = call { i8, ptr } @f(ptr %r0)"):
             self.assertEqual(self.inner(line), line + "\n")
 
-    def test_an_address_as_a_number_is_widened(self):
-        self.assertEqual(self.inner("  %r1 = ptrtoaddr ptr %a1 to i64"), "  %r1.32 = ptrtoaddr ptr %a1 to i32\n  %r1 = zext i32 %r1.32 to i64\n")
+    def test_an_address_as_a_number_is_refused(self):
+        self.refused(INNER.replace("  ret i64", "  %r1 = ptrtoaddr ptr %r0 to i64\n  ret i64"), "an address that is taken for a number")
 
     def test_room_for_such_an_aggregate_is_refused(self):
         self.refused(INNER.replace("  ret i64", "  %r1 = alloca { i8, ptr }, align 8\n  ret i64"), "in a line that isn't known")
