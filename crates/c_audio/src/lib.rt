@@ -30,7 +30,14 @@ fn set_samples(packet: &mut [u8], lent: &[u8], count: i32) -> Result<i32, Refuse
     audio::set_audio(packet, &samples[..lent.len() / 2], count)
 }
 
-// Up to four frames, left then right. The count is carried.
+// The count is carried.
+fn answer_counted(count: Result<i32, Refused<i32>>) -> Answer
+    ensures { result ≡ counted count }
+{
+    Answer::from(count)
+}
+
+// Up to four frames, left then right.
 pub fn set_audio(packet: &mut [u8], samples: &[u8], count: i32) -> Answer
     ensures answer { result ≡ counted (count_of packet.old samples.now count) }
     ensures written { packet.new ≡ packet_out packet.old samples.now count }
@@ -38,5 +45,5 @@ pub fn set_audio(packet: &mut [u8], samples: &[u8], count: i32) -> Answer
     if samples.len() % 2 != 0 || samples.len() > 16 {
         return Answer::refused(Refusal::Length, count);
     }
-    Answer::from(set_samples(packet, samples, count))
+    answer_counted(set_samples(packet, samples, count))
 }

@@ -35,4 +35,4 @@ returns-then-samples-ne0 c =
 pub returns : goal.returns
 returns c =
     let e = rw (to_z-of_z c.ranges.count) at c.set_samples.ensures in
-    rw (eq-eqb (length c.args.samples.now % 2) 0 c.if-samples-ne0.false) (record { answer = c.from.ensures ∙ ap counted e.0; written = e.1 })
+    rw (eq-eqb (length c.args.samples.now % 2) 0 c.if-samples-ne0.false) (record { answer = c.answer_counted.ensures ∙ ap counted e.0; written = e.1 })
