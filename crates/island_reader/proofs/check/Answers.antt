@@ -28,6 +28,10 @@ module _ (ws : List ℕ) where
   clean : verdict (lane_ask ws ∷ []) ≡ Ok tt → (k : ℕ) → k < 32 → unread (get_or ws (2 + k) 0) ≡ false
   clean l = lanes-right ws (fine_holds (lane_ask ws) l)
 
+  -- the numbers that the lanes left, where nothing is refused
+  numbered : {v : Verdict} {found : List ℕ} → v ≡ Ok tt → OnOk v (found ≡ numbers_in ws) → numbers_in ws ≡ found
+  numbered {found = found} e read = sym (subst (λ (v : Verdict). OnOk v (found ≡ numbers_in ws)) e read)
+
   -- the sync bits, by the numbers
   module _ {h : ℕ} {found : List ℕ} (g : verdict (guard_ask (hv ws) ws ∷ []) ≡ Ok tt) (l : verdict (lane_ask ws ∷ []) ≡ Ok tt) (dh : hv ws ≡ h) (df : numbers_in ws ≡ found) where
     synced : verdict (nowhere (sync_unlike h found) 2 32 SyncBits ∷ []) ≡ verdict (sync_ask (hv ws) ws ∷ [])
@@ -73,7 +77,7 @@ returns-in_err-sync-clause-answer c =
     let x = sym c.high_bits.ensures ∙ c.in_ok-high_bits.was in
     let g = answered_ok (verdict (guard_ask (hv ws) ws ∷ [])) (hv ws) _ (sym c.guards.ensures ∙ c.in_ok-hv.was) in
     let l = sym c.lanes.ensures.answer ∙ c.in_ok-lanes.was in
-    let n = sym (subst (λ (v : Verdict). OnOk v (c.lanes.new.found ≡ numbers_in ws)) c.in_ok-lanes.was c.lanes.ensures.read) in
+    let n = numbered ws c.in_ok-lanes.was c.lanes.ensures.read in
     let s = sym (c.sync.ensures ∙ synced ws g.0 l g.1 n) ∙ c.in_err-sync.was in
     let e = fourth_decides (high_ask ws) (guard_ask (hv ws) ws) (lane_ask ws) (sync_ask (hv ws) ws) x g.0 l ∙ s in
     refuses ws (handed_on c.from_residual-in_err-sync.result _ c.from_residual-in_err-sync.ensures.1) (words_refuse ws e)
@@ -84,7 +88,7 @@ returns-in_err-blocks-clause-answer c =
     let x = sym c.high_bits.ensures ∙ c.in_ok-high_bits.was in
     let g = answered_ok (verdict (guard_ask (hv ws) ws ∷ [])) (hv ws) _ (sym c.guards.ensures ∙ c.in_ok-hv.was) in
     let l = sym c.lanes.ensures.answer ∙ c.in_ok-lanes.was in
-    let n = sym (subst (λ (v : Verdict). OnOk v (c.lanes.new.found ≡ numbers_in ws)) c.in_ok-lanes.was c.lanes.ensures.read) in
+    let n = numbered ws c.in_ok-lanes.was c.lanes.ensures.read in
     let s = sym (c.sync.ensures ∙ synced ws g.0 l g.1 n) ∙ c.in_ok-sync.was in
     let e = fourth_decides (high_ask ws) (guard_ask (hv ws) ws) (lane_ask ws) (sync_ask (hv ws) ws) x g.0 l ∙ s in
     let p = c.unpack.ensures ∙ unpacked ws g.0 l g.1 n in
@@ -97,7 +101,7 @@ returns c =
     let x = sym c.high_bits.ensures ∙ c.in_ok-high_bits.was in
     let g = answered_ok (verdict (guard_ask (hv ws) ws ∷ [])) (hv ws) _ (sym c.guards.ensures ∙ c.in_ok-hv.was) in
     let l = sym c.lanes.ensures.answer ∙ c.in_ok-lanes.was in
-    let n = sym (subst (λ (v : Verdict). OnOk v (c.lanes.new.found ≡ numbers_in ws)) c.in_ok-lanes.was c.lanes.ensures.read) in
+    let n = numbered ws c.in_ok-lanes.was c.lanes.ensures.read in
     let s = sym (c.sync.ensures ∙ synced ws g.0 l g.1 n) ∙ c.in_ok-sync.was in
     let e = fourth_decides (high_ask ws) (guard_ask (hv ws) ws) (lane_ask ws) (sync_ask (hv ws) ws) x g.0 l ∙ s in
     let p = c.unpack.ensures ∙ unpacked ws g.0 l g.1 n in
